@@ -1,0 +1,9 @@
+pub mod Configuration
+pub mod Signature
+pub mod Fits
+pub mod Truth
+pub mod StateOf
+pub mod Effect
+pub mod Legal
+pub mod Meets
+pub mod Negation

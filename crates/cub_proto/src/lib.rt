@@ -1,0 +1,28 @@
+//! Protocols, their states and what events do to them. Array-based systems after Ghilardi and Ranise, in the
+//! language of Cubicle: globals, arrays indexed by processes, a start formula, unsafe conjunctions, transitions.
+#![tactic(auto)]
+
+// Literals and values over globals, arrays and places.
+mod literal;
+
+pub use literal::{Conjs, ISide, Lit, Lits, PSide, Sort, Term, Value};
+
+// Transitions.
+mod transition;
+
+pub use transition::{Branch, Branches, Target, Transition, Transitions, Update, Updates};
+
+// Protocols.
+mod protocol;
+
+pub use protocol::{Cons, Decl, Decls, Goal, Goals, Protocol, SortDecl, SortDecls};
+
+// States.
+mod state;
+
+pub use state::{Cells, Slot, State, Val};
+
+// Events, runs and traces.
+mod event;
+
+pub use event::{Chosen, Event, Events, Picked, Plain, Processes, Trace};
