@@ -2,6 +2,7 @@ pub mod Configuration
 pub mod Signature
 pub mod Fits
 pub mod Truth
+pub mod First
 pub mod StateOf
 pub mod Effect
 pub mod Legal

@@ -9,6 +9,7 @@ use Rattle.cub_proto.specs.declared.protocol.Protocol.{Protocol}
 use Rattle.cub_proto.specs.declared.protocol.Decl.{Decl}
 use Rattle.cub_proto.specs.Signature.{Signature, signature, constructors_of}
 use Rattle.cub_proto.specs.Configuration.{Configuration, process_count}
+use Rattle.cub_proto.specs.First.{first_value}
 
 -- the signature of a protocol
 abbrev pub signature_of : Protocol → Signature
@@ -37,12 +38,6 @@ pub record IsStateOf (p : Protocol) (s : Configuration) : Type 0 where
   pub some_process : 0 < process_count s
   pub globals_fit : AllZip (λ d v. IsOfSort (signature_of p) (process_count s) d.sort v) p.globals s.globals
   pub arrays_fit : AllZip (AreCells (signature_of p) (process_count s)) p.arrays s.arrays
-
--- the first value of a sort
-abbrev pub first_value : Sort → Val
-first_value (Sort.Fin k) = Con 0
-first_value Sort.Proc = Proc 0
-first_value Sort.Int = Int (pos 0)
 
 -- the state of so many processes where all are alive and every value is the first of its sort
 abbrev pub first_state : Protocol → ℕ → Configuration

@@ -22,6 +22,11 @@ mod state;
 
 pub use state::{Cells, Slot, State, Val};
 
+// The truth of literals at a state.
+mod truth;
+
+pub use truth::{all_hold, any_holds, has_bit, holds, integer_at, process_at, term_value};
+
 // Events, runs and traces.
 mod event;
 

@@ -1,9 +1,13 @@
 //! States. A state keeps one flag a process, one value a global and one list of cells an array, so that a step writes
 //! whole lists in order; contracts see these lists.
 
-ghost use Rattle.std.specs.Prelude.{◌≡◌, ◌<◌, ◌^◌, length, IfOk};
+ghost use Rattle.std.specs.Prelude.{◌≡◌, ◌<◌, ◌^◌, length, IfOk, map, replicate};
+ghost use Rattle.cub_proto.specs.First.{first_value};
 
-use cub_base::Items;
+use crate::literal::Sort;
+use crate::protocol::{Decls, Protocol};
+use cub_base::{Items, Memory};
+use std::alloc::{AllocError, Global};
 use std::marker::Model;
 
 /// A value: the number of a constructor, a process, or an integer.
@@ -43,7 +47,38 @@ impl Model for State {
 }
 
 impl State {
+    ghost use Rattle.cub_proto.specs.StateOf.{first_state};
     ghost use Rattle.cub_proto.specs.Configuration.{process_count, is_alive, value_at, cells_of, HasSlot, put, killed};
+
+    /// The state of so many processes where all are alive, and each value is the first constructor, process 0 or 0.
+    pub fn new(alloc: Global, protocol: &Protocol, processes: u32) -> Result<State, Memory>
+        requires { 0 < processes }
+        ensures { IfOk result (λ s. s ≡ first_state protocol.now processes) }
+    {
+        let alive = vec![in alloc; true; processes as usize]?;
+        let globals = first_globals(alloc, &protocol.globals)?;
+        let arrays = first_arrays(alloc, &protocol.arrays, processes)?;
+        Ok(State {
+            alive,
+            globals,
+            arrays,
+        })
+    }
+
+    /// An equal state.
+    pub fn copy(&self) -> Result<State, Memory>
+        ensures { IfOk result (λ s. s ≡ self.now) }
+    {
+        let alloc = *self.alive.allocator();
+        let alive = Vec::from_slice(alloc, self.alive.as_slice())?;
+        let globals = Vec::from_slice(alloc, self.globals.as_slice())?;
+        let arrays = copied_arrays(alloc, self.arrays.as_slice())?;
+        Ok(State {
+            alive,
+            globals,
+            arrays,
+        })
+    }
 
     /// The number of processes, alive or dead.
     pub fn processes(&self) -> u32
@@ -104,4 +139,44 @@ impl State {
     {
         self.arrays[array as usize].as_slice()
     }
+}
+
+fn first_value(sort: Sort) -> Val
+    ensures { result ≡ first_value sort }
+{
+    match sort {
+        Sort::Fin(_) => Val::Con(0),
+        Sort::Proc => Val::Proc(0),
+        Sort::Int => Val::Int(0),
+    }
+}
+
+fn first_globals(alloc: Global, decls: &Decls) -> Result<Vec<Val>, AllocError>
+    ensures { IfOk result (λ vals. vals.items ≡ map (λ d. first_value d.sort) decls.now) }
+{
+    decls
+        .as_slice()
+        .iter()
+        .map(|decl| first_value(decl.sort))
+        .collect(alloc)
+}
+
+fn first_arrays(alloc: Global, decls: &Decls, processes: u32) -> Result<Vec<Cells>, AllocError>
+    ensures { IfOk result (λ arrays. arrays.items ≡ map (λ d. replicate processes (first_value d.sort)) decls.now) }
+{
+    let mut arrays = Vec::with_capacity(alloc, decls.len())?;
+    for decl in decls.as_slice() {
+        arrays.push(Items::filled(alloc, first_value(decl.sort), processes as usize)?)?;
+    }
+    Ok(arrays)
+}
+
+fn copied_arrays(alloc: Global, arrays: &[Cells]) -> Result<Vec<Cells>, AllocError>
+    ensures { IfOk result (λ copies. copies.items ≡ arrays.now) }
+{
+    let mut copies = Vec::with_capacity(alloc, arrays.len())?;
+    for cells in arrays {
+        copies.push(cells.copy()?)?;
+    }
+    Ok(copies)
 }
