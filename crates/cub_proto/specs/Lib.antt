@@ -1,6 +1,7 @@
 pub mod Configuration
 pub mod Signature
 pub mod Fits
+pub mod Order
 pub mod Truth
 pub mod First
 pub mod StateOf

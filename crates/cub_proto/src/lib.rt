@@ -17,6 +17,26 @@ mod protocol;
 
 pub use protocol::{Cons, Decl, Decls, Goal, Goals, Protocol, SortDecl, SortDecls};
 
+// What is declared, and what fits it.
+mod declared;
+
+pub use declared::Declared;
+
+mod fits;
+
+pub use fits::{
+    GREATEST_BOUND, GREATEST_CONSTANT, branch_fits, conjunction_fits, formula_fits,
+    integer_side_fits, is_bounded, is_finite, is_sort, literal_fits, place_fits, process_side_fits,
+    same_finite, same_sort, term_fits, update_fits, update_width, value_fits,
+};
+
+// The order of literals.
+mod order;
+
+pub use order::{
+    compare_integer_sides, compare_lits, compare_process_sides, compare_slots, compare_terms,
+};
+
 // States.
 mod state;
 

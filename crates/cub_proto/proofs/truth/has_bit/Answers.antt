@@ -9,5 +9,5 @@ pub returns-else-constructor-lt64 : goal.returns-else-constructor-lt64
 returns-else-constructor-lt64 c =
     let small : c.args.mask < 2 ^ 64 = omega arith in
     let above : bit_at c.args.mask c.args.constructor ≡ 0 =
-        bit_at_above c.args.mask 64 c.args.constructor small c.if-constructor-lt64.false in
+    bit_at_above c.args.mask 64 c.args.constructor small c.if-constructor-lt64.false in
     grind (arith, common_steps)
