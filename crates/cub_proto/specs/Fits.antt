@@ -206,10 +206,14 @@ global_fits sorts d = is_declarable d.name && sort_is_there sorts d.sort
 abbrev pub array_fits : List SortDecl → Decl → Bool
 array_fits sorts d = is_declarable d.name && sort_is_there sorts d.sort && not (same_sort d.sort Sort.Proc)
 
+-- none of the names is among those seen, and none stands twice
+abbrev pub are_new : List (List ℕ) → List (List ℕ) → Bool
+are_new seen [] = true
+are_new seen (x ∷ xs) = not (list_any (bytes_eq x) seen) && are_new (seen ++ x ∷ []) xs
+
 -- no name stands twice
 abbrev pub are_distinct : List (List ℕ) → Bool
-are_distinct [] = true
-are_distinct (x ∷ xs) = not (list_any (bytes_eq x) xs) && are_distinct xs
+are_distinct names = are_new [] names
 
 -- the names of constructors, globals and arrays, which share one space
 abbrev pub value_names : List SortDecl → List Decl → List Decl → List (List ℕ)

@@ -1,6 +1,8 @@
 pub mod Configuration
 pub mod Signature
 pub mod Fits
+pub mod Seen
+pub mod Parts
 pub mod Order
 pub mod Truth
 pub mod First

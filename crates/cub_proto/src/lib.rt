@@ -15,7 +15,9 @@ pub use transition::{Branch, Branches, Target, Transition, Transitions, Update, 
 // Protocols.
 mod protocol;
 
-pub use protocol::{Cons, Decl, Decls, Goal, Goals, Protocol, SortDecl, SortDecls};
+pub use protocol::{Cons, Decl, Decls, Goal, Goals, NotProtocol, Protocol, SortDecl, SortDecls};
+
+mod copies;
 
 // What is declared, and what fits it.
 mod declared;
@@ -29,6 +31,11 @@ pub use fits::{
     integer_side_fits, is_bounded, is_finite, is_sort, literal_fits, place_fits, process_side_fits,
     same_finite, same_sort, term_fits, update_fits, update_width, value_fits,
 };
+
+mod distinct;
+mod parts;
+
+pub use parts::{picks_process, takes_any, target_before};
 
 // The order of literals.
 mod order;
@@ -51,3 +58,12 @@ pub use truth::{all_hold, any_holds, has_bit, holds, integer_at, process_at, ter
 mod event;
 
 pub use event::{Chosen, Event, Events, Picked, Plain, Processes, Trace};
+
+// Budgets of a search, and what a certificate says of its cubes.
+mod budget;
+
+pub use budget::{Budget, MOST_CUBES, MOST_WIDTH};
+
+mod cover;
+
+pub use cover::{CoverLine, CoverLines};

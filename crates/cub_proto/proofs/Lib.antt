@@ -1,0 +1,3 @@
+pub mod NamesSeen
+pub mod Tests
+pub mod SameParts

@@ -1,0 +1,6 @@
+use Rattle.std.proofs.Common.{◌≡◌, ℕ, List}
+use Rattle.cub_proto.proofs.distinct.insert_name.Goals as goal
+
+-- the set's own clause, at the key with these bytes
+pub returns-clause-after : goal.returns-clause-after
+returns-clause-after c = λ q. c.in_ok-insert.ensures.updates.0 (record c.args.name { now = q })
