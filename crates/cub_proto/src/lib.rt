@@ -67,3 +67,7 @@ pub use budget::{Budget, MOST_CUBES, MOST_WIDTH};
 mod cover;
 
 pub use cover::{CoverLine, CoverLines};
+
+// Laws: what holds of every protocol, state and event.
+mod laws;
+pub use laws::{legal_events_keep_states, negation_is_opposite};
