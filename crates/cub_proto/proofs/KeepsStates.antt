@@ -42,10 +42,11 @@ zip_map_from : {A B : Type 0} (R : A → B → Type 0) (f : ℕ → B → B) (xs
 zip_map_from R f [] [] k each zip = zip
 zip_map_from R f [] (y ∷ ys) k each zip = absurd zip
 zip_map_from R f (x ∷ xs) [] k each zip = absurd zip
-zip_map_from R f (x ∷ xs) (y ∷ ys) k each zip =
-    (subst (λ n. R x (f n y)) (add-zero k) (each 0 x y refl zip.0),
-    zip_map_from R f xs ys (k + 1)
-        (λ i u v is here. let same : k + suc i ≡ (k + 1) + i = omega arith in subst (λ n. R u (f n v)) same (each (suc i) u v is here)) zip.1)
+zip_map_from R f (x ∷ xs) (y ∷ ys) k each zip = (
+  subst (λ n. R x (f n y)) (add-zero k) (each 0 x y refl zip.0),
+  zip_map_from R f xs ys (k + 1)
+      (λ i u v is here. let same : k + suc i ≡ (k + 1) + i = omega arith in subst (λ n. R u (f n v)) same (each (suc i) u v is here)) zip.1,
+)
 
 -- the values of an array's cells, changed place by place
 all_map_from : {B : Type 0} (P : B → Type 0) (f : ℕ → B → B) (ys : List B) (k : ℕ)
@@ -53,10 +54,10 @@ all_map_from : {B : Type 0} (P : B → Type 0) (f : ℕ → B → B) (ys : List 
 all_map_from P f [] k each all = all
 all_map_from P f (y ∷ ys) k each all =
     All-cons P (f k y) (map_from f (k + 1) ys)
-        (subst (λ n. P (f n y)) (add-zero k) (each 0 y (omega arith) (all 0 y (omega arith))))
-        (all_map_from P f ys (k + 1)
-            (λ i z below here. let same : k + suc i ≡ (k + 1) + i = omega arith in subst (λ n. P (f n z)) same (each (suc i) z (omega arith) here))
-            (λ i d below. all (suc i) d (omega arith)))
+    (subst (λ n. P (f n y)) (add-zero k) (each 0 y (omega arith) (all 0 y (omega arith))))
+    (all_map_from P f ys (k + 1)
+    (λ i z below here. let same : k + suc i ≡ (k + 1) + i = omega arith in subst (λ n. P (f n z)) same (each (suc i) z (omega arith) here))
+    (λ i d below. all (suc i) d (omega arith)))
 
 length_map_from : {A B : Type 0} (f : ℕ → A → B) (k : ℕ) (xs : List A) → length (map_from f k xs) ≡ length xs
 length_map_from f k [] = refl
@@ -85,13 +86,13 @@ found_fits sig params [] target u fits is = cc
 found_fits sig params (v ∷ vs) target u fits is =
     split (λ here. found_fits sig params vs target u (and_right (update_fits sig params v) (list_all (update_fits sig params) vs) fits) here) (same_target v.target target) refl is
   where
-  split : (find (λ w. same_target w.target target) vs ≡ Some u → (update_fits sig params u ≡ true) × (u.target ≡ target)) → (b : Bool) → same_target v.target target ≡ b
-      → cond b (Some v) (find (λ w. same_target w.target target) vs) ≡ Some u → (update_fits sig params u ≡ true) × (u.target ≡ target)
-  split rest true e here =
-      let same : v ≡ u = cc in
-      subst (λ w. (update_fits sig params w ≡ true) × (w.target ≡ target)) same
-          (and_left (update_fits sig params v) (list_all (update_fits sig params) vs) fits, same_target_is v.target target e)
-  split rest false e here = rest here
+    split : (find (λ w. same_target w.target target) vs ≡ Some u → (update_fits sig params u ≡ true) × (u.target ≡ target)) → (b : Bool) → same_target v.target target ≡ b
+        → cond b (Some v) (find (λ w. same_target w.target target) vs) ≡ Some u → (update_fits sig params u ≡ true) × (u.target ≡ target)
+    split rest true e here =
+        let same : v ≡ u = cc in
+        subst (λ w. (update_fits sig params w ≡ true) × (w.target ≡ target)) same
+        (and_left (update_fits sig params v) (list_all (update_fits sig params) vs) fits, same_target_is v.target target e)
+    split rest false e here = rest here
 
 -- the value that counts is of the update's sort
 counting_fits : (sig : Signature) (s : Configuration) (places : List ℕ) (width : ℕ) (sort : Sort) (u : Update)
@@ -102,17 +103,17 @@ counting_fits sig s places width sort u fits =
     let front = and_left (few && each) (value_fits sig width sort u.last) fits in
     let branches = all_from (branch_fits sig width sort) u.branches (and_right few each front) in
     chosen_fits (λ v. value_fits sig width sort v ≡ true) s places u.branches u.last
-        (λ k d below. and_right (conjunction_fits sig width (get_or u.branches k d).cond) (value_fits sig width sort (get_or u.branches k d).value) (branches k d below))
-        (and_right (few && each) (value_fits sig width sort u.last) fits)
+    (λ k d below. and_right (conjunction_fits sig width (get_or u.branches k d).cond) (value_fits sig width sort (get_or u.branches k d).value) (branches k d below))
+    (and_right (few && each) (value_fits sig width sort u.last) fits)
 
 module _ (p : Protocol) (s : Configuration) (state : IsStateOf p s) where
   process_side_within : (places : List ℕ) (side : PSide) → All (λ i. i < process_count s) places → process_side_fits (signature_of p) (length places) side ≡ true → process_at s places side < process_count s
   process_side_within places (PSide.Global g) processes fits = process_value (get_or s.globals g (Con 0)) (global_value p s state g Sort.Proc (sort_is (declared_sort p.globals g) Sort.Proc fits))
     where
-    process_value : (v : Val) → IsOfSort (signature_of p) (process_count s) Sort.Proc v → process_of v < process_count s
-    process_value (Con c) h = absurd h
-    process_value (Proc i) h = h
-    process_value (Int m) h = absurd h
+      process_value : (v : Val) → IsOfSort (signature_of p) (process_count s) Sort.Proc v → process_of v < process_count s
+      process_value (Con c) h = absurd h
+      process_value (Proc i) h = h
+      process_value (Int m) h = absurd h
   process_side_within places (PSide.Place q) processes fits = processes q 0 (ltb-true q (length places) fits)
 
   -- what a value of the sort settles on is of the sort
@@ -157,7 +158,7 @@ module _ (p : Protocol) (s : Configuration) (state : IsStateOf p s) where
         let sig = signature_of p in
         let front = is_declarable t.name && nat_le (t.params + count_by (picks_process sig) t.updates) 3 && formula_fits sig t.params t.guard && formula_fits sig (t.params + 1) t.others in
         and_right front (list_all (update_fits sig t.params) t.updates)
-            (and_left (front && list_all (update_fits sig t.params) t.updates) (targets_rise t.updates) fits)
+        (and_left (front && list_all (update_fits sig t.params) t.updates) (targets_rise t.updates) fits)
 
     params_within : All (λ i. i < process_count s) params
     params_within = λ k d below. alive_within s (get_or params k d) (fires.parameters.alive k d below)
@@ -168,11 +169,11 @@ module _ (p : Protocol) (s : Configuration) (state : IsStateOf p s) where
     value_counts target sort places is wide u found =
         let here = found_fits (signature_of p) t.params t.updates target u updates_fit found in
         let at : update_fits_sort (signature_of p) (update_width t.params target) (target_sort (signature_of p) target) u ≡ true =
-            subst (λ x. update_fits_sort (signature_of p) (update_width t.params x) (target_sort (signature_of p) x) u ≡ true) here.1 here.0 in
+        subst (λ x. update_fits_sort (signature_of p) (update_width t.params x) (target_sort (signature_of p) x) u ≡ true) here.1 here.0 in
         let sorted : update_fits_sort (signature_of p) (update_width t.params target) (Some sort) u ≡ true =
-            subst (λ x. update_fits_sort (signature_of p) (update_width t.params target) x u ≡ true) is at in
+        subst (λ x. update_fits_sort (signature_of p) (update_width t.params target) x u ≡ true) is at in
         subst (λ n. value_fits (signature_of p) n sort (counting s places u) ≡ true) (sym wide)
-            (counting_fits (signature_of p) s places (update_width t.params target) sort u sorted)
+        (counting_fits (signature_of p) s places (update_width t.params target) sort u sorted)
 
     global_stays : (g : ℕ) (d : Decl) (old : Val) → slice_get p.globals g ≡ Some d → IsOfSort (signature_of p) (process_count s) d.sort old
         → IsOfSort (signature_of p) (process_count s) d.sort (global_after s params t.updates pick (0 + g) old)
@@ -180,23 +181,24 @@ module _ (p : Protocol) (s : Configuration) (state : IsStateOf p s) where
         let zero_add : 0 + g ≡ g = omega arith in
         let declared : declared_sort p.globals g ≡ Some d.sort = ap (option_map (λ x. x.sort)) is in
         subst (λ n. IsOfSort (signature_of p) (process_count s) d.sort (global_after s params t.updates pick n old)) (sym zero_add)
-            (updated_of_sort params d.sort (update_of t.updates (Target.Global g)) (pick (Slot.Global g)) old params_within
-                (value_counts (Target.Global g) d.sort params declared fires.one_each) was
-                (λ v picked. pick_of_sort params (update_of t.updates (Target.Global g)) (declared_sort p.globals g) v d.sort (fires.picks (Slot.Global g) v picked) declared))
+        (updated_of_sort params d.sort (update_of t.updates (Target.Global g)) (pick (Slot.Global g)) old params_within
+        (value_counts (Target.Global g) d.sort params declared fires.one_each) was
+        (λ v picked. pick_of_sort params (update_of t.updates (Target.Global g)) (declared_sort p.globals g) v d.sort (fires.picks (Slot.Global g) v picked) declared))
 
     cell_stays : (a i : ℕ) (d : Decl) (old : Val) → slice_get p.arrays a ≡ Some d → IsOfSort (signature_of p) (process_count s) d.sort old
         → IsOfSort (signature_of p) (process_count s) d.sort (cell_after s params (update_of t.updates (Target.Array a)) pick a i old)
     cell_stays a i d old is was = split (is_alive s i) refl
       where
-      declared : declared_sort p.arrays a ≡ Some d.sort
-      declared = ap (option_map (λ x. x.sort)) is
-      split : (b : Bool) → is_alive s i ≡ b → IsOfSort (signature_of p) (process_count s) d.sort (if b then updated s (params ++ i ∷ []) (update_of t.updates (Target.Array a)) (pick (Slot.Cell a i)) old else old)
-      split true alive =
-          updated_of_sort (params ++ i ∷ []) d.sort (update_of t.updates (Target.Array a)) (pick (Slot.Cell a i)) old
-              (All-push (λ j. j < process_count s) params i params_within (alive_within s i alive))
-              (value_counts (Target.Array a) d.sort (params ++ i ∷ []) declared (length_push params i ∙ ap (λ n. n + 1) fires.one_each)) was
-              (λ v picked. pick_of_sort (params ++ i ∷ []) (update_of t.updates (Target.Array a)) (declared_sort p.arrays a) v d.sort (fires.picks (Slot.Cell a i) v picked).1 declared)
-      split false dead = was
+        declared : declared_sort p.arrays a ≡ Some d.sort
+        declared = ap (option_map (λ x. x.sort)) is
+
+        split : (b : Bool) → is_alive s i ≡ b → IsOfSort (signature_of p) (process_count s) d.sort (if b then updated s (params ++ i ∷ []) (update_of t.updates (Target.Array a)) (pick (Slot.Cell a i)) old else old)
+        split true alive =
+            updated_of_sort (params ++ i ∷ []) d.sort (update_of t.updates (Target.Array a)) (pick (Slot.Cell a i)) old
+            (All-push (λ j. j < process_count s) params i params_within (alive_within s i alive))
+            (value_counts (Target.Array a) d.sort (params ++ i ∷ []) declared (length_push params i ∙ ap (λ n. n + 1) fires.one_each)) was
+            (λ v picked. pick_of_sort (params ++ i ∷ []) (update_of t.updates (Target.Array a)) (declared_sort p.arrays a) v d.sort (fires.picks (Slot.Cell a i) v picked).1 declared)
+        split false dead = was
 
     cells_stay : (a : ℕ) (d : Decl) (cells : List Val) → slice_get p.arrays a ≡ Some d → AreCells (signature_of p) (process_count s) d cells
         → AreCells (signature_of p) (process_count s) d (cells_after s params t.updates pick (0 + a) cells)
@@ -238,4 +240,4 @@ pub after_state : (p : Protocol) (s : Configuration) (event : Event) → IsState
 after_state p s (Crash i) state legal = killed_state p s i state
 after_state p s (Fire number params picks) state legal =
     subst (λ o. IsStateOf p (fired_by o s params picks)) (sym legal.is_there)
-        (fired_state p s state legal.transition (transition_at p number legal.transition legal.is_there) params (picked picks) legal.fires)
+    (fired_state p s state legal.transition (transition_at p number legal.transition legal.is_there) params (picked picks) legal.fires)

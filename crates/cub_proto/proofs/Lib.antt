@@ -3,3 +3,5 @@ pub mod Tests
 pub mod SameParts
 pub mod StateValues
 pub mod KeepsStates
+pub mod Opposite
+pub mod Constructors

@@ -37,9 +37,9 @@ declared_is (d ∷ decls) (suc n) sort h = declared_is decls n sort h
 pub alive_within : (s : Configuration) (i : ℕ) → IsAlive s i → i < process_count s
 alive_within s i alive = by (slice_get_cases s.living i).1
   where
-  by : ((x : Bool) × (i < length s.living) × (slice_get s.living i ≡ Some x) × (get_or s.living i x ≡ x)) ⊎ ((length s.living ≤ i) × (slice_get s.living i ≡ None)) → i < process_count s
-  by (inl found) = found.1
-  by (inr past) = let none = get_or_past s.living i false past.0 in cc
+    by : ((x : Bool) × (i < length s.living) × (slice_get s.living i ≡ Some x) × (get_or s.living i x ≡ x)) ⊎ ((length s.living ≤ i) × (slice_get s.living i ≡ None)) → i < process_count s
+    by (inl found) = found.1
+    by (inr past) = let none = get_or_past s.living i false past.0 in cc
 
 -- the same sort by the test
 pub same_sort_is : (a b : Sort) → same_sort a b ≡ true → a ≡ b
@@ -63,7 +63,7 @@ module _ (p : Protocol) (s : Configuration) (state : IsStateOf p s) where
   global_value g sort is =
       let d = declared_is p.globals g sort is in
       subst (λ v. IsOfSort (signature_of p) (process_count s) v (get_or s.globals g (Con 0))) d.2
-          (zip_at (λ d v. IsOfSort (signature_of p) (process_count s) d.sort v) p.globals s.globals g d.0 (Con 0) state.globals_fit d.1)
+      (zip_at (λ d v. IsOfSort (signature_of p) (process_count s) d.sort v) p.globals s.globals g d.0 (Con 0) state.globals_fit d.1)
 
   -- the cell of a process is of its array's sort
   pub cell_value : (a i : ℕ) (sort : Sort) → declared_sort p.arrays a ≡ Some sort → i < process_count s → IsOfSort (signature_of p) (process_count s) sort (get_or (cells_of s a) i (Con 0))
@@ -85,5 +85,5 @@ module _ (p : Protocol) (s : Configuration) (state : IsStateOf p s) where
       → IsOfSort (signature_of p) (process_count s) sort (term_value s places t)
   fitting_value places t sort processes fits =
       value_of_sort places t sort processes
-          (and_right (is_sort (sort_of (signature_of p) t) sort) (place_fits (length places) t) fits)
-          (sort_is (sort_of (signature_of p) t) sort (and_left (is_sort (sort_of (signature_of p) t) sort) (place_fits (length places) t) fits))
+      (and_right (is_sort (sort_of (signature_of p) t) sort) (place_fits (length places) t) fits)
+      (sort_is (sort_of (signature_of p) t) sort (and_left (is_sort (sort_of (signature_of p) t) sort) (place_fits (length places) t) fits))

@@ -14,12 +14,10 @@ ghost use Rattle.cub_proto.specs.Legal.{IsLegal, after};
 /// A legal event leads from a state of the protocol to a state of it.
 pub fn legal_events_keep_states()
     ensures { (p : Protocol) (s : Configuration) (event : Event) → IsStateOf p s → IsLegal p s event → IsStateOf p (after p s event) }
-{
-}
+{}
 
 /// At each state of the protocol, the negation of a literal is true where the literal is false.
 pub fn negation_is_opposite()
     ensures { (p : Protocol) (s : Configuration) (places : List ℕ) (lit : Lit) → IsStateOf p s → All (λ i. i < process_count s) places
         → IsTrue (literal_fits (signature_of p) (length places) lit) → is_true s places (negated (signature_of p) lit) ≡ not (is_true s places lit) }
-{
-}
+{}

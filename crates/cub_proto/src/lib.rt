@@ -44,6 +44,11 @@ pub use order::{
     compare_integer_sides, compare_lits, compare_process_sides, compare_slots, compare_terms,
 };
 
+// Negations.
+mod negation;
+
+pub use negation::{full_mask, negated};
+
 // States.
 mod state;
 
@@ -70,4 +75,5 @@ pub use cover::{CoverLine, CoverLines};
 
 // Laws: what holds of every protocol, state and event.
 mod laws;
+
 pub use laws::{legal_events_keep_states, negation_is_opposite};
