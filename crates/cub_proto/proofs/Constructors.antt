@@ -50,7 +50,7 @@ sort_size [] k d h is = cc
 sort_size (e ∷ es) zero d h is =
     let same : e ≡ d = cc in
     subst (λ x. IsSize (length x.cons)) same
-        (two_size e.cons (and_right (bytes_eq e.name (codes "bool")) (constructors_are_false_true e.cons) (and_left (is_bool e) (list_all sort_decl_fits es) h)))
+    (two_size e.cons (and_right (bytes_eq e.name (codes "bool")) (constructors_are_false_true e.cons) (and_left (is_bool e) (list_all sort_decl_fits es) h)))
 sort_size (e ∷ es) (suc k) d h is = rest_size es k d (and_right (is_bool e) (list_all sort_decl_fits es) h) is
 
 module _ (p : Protocol) where
@@ -61,9 +61,9 @@ module _ (p : Protocol) where
   few_of : (sort : Sort) → constructors_of (signature_of p) sort ≤ 64
   few_of (Sort.Fin k) = by (slice_get p.sorts k) refl
     where
-    by : (o : Option SortDecl) → slice_get p.sorts k ≡ o → option_map_or (λ d. length d.cons) o 0 ≤ 64
-    by None is = omega arith
-    by (Some d) is = (declared_size k d is).few
+      by : (o : Option SortDecl) → slice_get p.sorts k ≡ o → option_map_or (λ d. length d.cons) o 0 ≤ 64
+      by None is = omega arith
+      by (Some d) is = (declared_size k d is).few
   few_of Sort.Proc = omega arith
   few_of Sort.Int = omega arith
 
@@ -71,6 +71,6 @@ module _ (p : Protocol) where
   pub few_constructors : (t : Term) → constructors_at (signature_of p) t ≤ 64
   few_constructors t = by (sort_of (signature_of p) t)
     where
-    by : (o : Option Sort) → option_map_or (constructors_of (signature_of p)) o 0 ≤ 64
-    by None = omega arith
-    by (Some sort) = few_of sort
+      by : (o : Option Sort) → option_map_or (constructors_of (signature_of p)) o 0 ≤ 64
+      by None = omega arith
+      by (Some sort) = few_of sort

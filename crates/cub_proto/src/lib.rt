@@ -77,3 +77,6 @@ pub use cover::{CoverLine, CoverLines};
 mod laws;
 
 pub use laws::{legal_events_keep_states, negation_is_opposite};
+
+#[cfg(test)]
+mod tests;

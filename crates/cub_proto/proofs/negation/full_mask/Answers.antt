@@ -8,5 +8,5 @@ pub all_constructors-requires : goal.all_constructors-requires
 all_constructors-requires c =
     let few = few_constructors c.args.protocol.now c.args.term in
     let same : c.constructors_at.result ≡ constructors_at (signature_of c.args.protocol.now) c.args.term =
-        c.constructors_at.ensures ∙ ap (λ d. constructors_at d c.args.term) c.declared.ensures in
+    c.constructors_at.ensures ∙ ap (λ d. constructors_at d c.args.term) c.declared.ensures in
     omega arith
