@@ -1,19 +1,18 @@
 -- Each sort of a protocol has 1 to 64 constructors.
-use Rattle.std.proofs.Common.{◌≡◌, ℕ, zero, suc, ◌<◌, ◌≤◌, Bool, true, false, List, [], ◌∷◌, length, Option, Some, None, refl, ap, subst, arith}
-use Rattle.std.specs.Prelude.{slice_get, ◌&&◌, nat_lt, nat_le, IsTrue, codes, bytes_eq}
+use Rattle.std.proofs.Common.{◌≡◌, ℕ, zero, suc, ◌<◌, ◌≤◌, true, List, [], ◌∷◌, length, Option, Some, None, refl, subst, arith}
+use Rattle.std.specs.Prelude.{slice_get, ◌&&◌, nat_lt, nat_le, codes, bytes_eq}
 use Rattle.std.specs.List.{list_all}
 use Rattle.std.specs.Option.{option_map_or}
 use Rattle.std.proofs.lemmas.Bool.{ltb-true, leb-true}
 use Rattle.cub_base.specs.Name.{is_declarable}
 use Rattle.cub_proto.specs.declared.literal.Sort.{Sort}
-use Rattle.cub_proto.specs.declared.literal.Sort.TheVariants as Sort
 use Rattle.cub_proto.specs.declared.literal.Term.{Term}
 use Rattle.cub_proto.specs.declared.protocol.SortDecl.{SortDecl}
 use Rattle.cub_proto.specs.declared.protocol.Protocol.{Protocol}
 use Rattle.cub_proto.specs.Signature.{sort_of, constructors_of, constructors_at}
 use Rattle.cub_proto.specs.StateOf.{signature_of}
 use Rattle.cub_proto.specs.Fits.{sort_decl_fits, constructors_are_false_true, is_bool, sorts_fit}
-use Rattle.cub_proto.proofs.Tests.{and_left, and_right}
+use Rattle.cub_proto.proofs.Elements.{and_left, and_right}
 
 -- from 1 to 64
 pub record IsSize (n : ℕ) : Type 0 where

@@ -1,6 +1,6 @@
 -- A legal event leads from a state of the protocol to a state of it.
-use Rattle.std.proofs.Common.{◌≡◌, ℕ, zero, suc, ◌+◌, ◌<◌, ◌≤◌, Bool, true, false, cond, List, [], ◌∷◌, ◌++◌, length, get_or, Option, Some, None, refl, sym, ap, ◌∙◌, subst, arith, add-zero, find}
-use Rattle.std.specs.Prelude.{slice_get, slice_set, slice_index, All, IsTrue, ◌&&◌, ◌==◌, nat_le, unsigned_abs, count_by, option_map, if◌then◌else◌}
+use Rattle.std.proofs.Common.{◌≡◌, ℕ, suc, ◌+◌, ◌<◌, Bool, true, false, cond, List, [], ◌∷◌, ◌++◌, length, get_or, Option, Some, None, refl, sym, ap, ◌∙◌, subst, arith, add-zero, find}
+use Rattle.std.specs.Prelude.{slice_get, slice_set, All, ◌&&◌, nat_le, count_by, option_map, if◌then◌else◌}
 use Rattle.std.specs.List.{AllZip, list_all}
 use Rattle.std.proofs.lemmas.Bool.{ltb-true, eqb-true}
 use Rattle.std.proofs.lemmas.List.Elements.{All-push, All-cons}
@@ -8,32 +8,27 @@ use Rattle.std.proofs.lemmas.List.{length_push, length-set}
 use Rattle.std.proofs.lemmas.Option.{get_or_from_slice_get, slice_get_within}
 use Rattle.cub_base.specs.Name.{is_declarable}
 use Rattle.cub_proto.specs.declared.literal.Sort.{Sort}
-use Rattle.cub_proto.specs.declared.literal.Sort.TheVariants as Sort
 use Rattle.cub_proto.specs.declared.literal.PSide.{PSide}
-use Rattle.cub_proto.specs.declared.literal.PSide.TheVariants as PSide
 use Rattle.cub_proto.specs.declared.literal.Value.{Value}
-use Rattle.cub_proto.specs.declared.literal.Value.TheVariants as Value
 use Rattle.cub_proto.specs.declared.transition.Branch.{Branch}
 use Rattle.cub_proto.specs.declared.transition.Target.{Target}
-use Rattle.cub_proto.specs.declared.transition.Target.TheVariants as Target
 use Rattle.cub_proto.specs.declared.transition.Update.{Update}
 use Rattle.cub_proto.specs.declared.transition.Transition.{Transition}
 use Rattle.cub_proto.specs.declared.state.Slot.{Slot}
-use Rattle.cub_proto.specs.declared.state.Slot.TheVariants as Slot
 use Rattle.cub_proto.specs.declared.state.Val.{Val}
 use Rattle.cub_proto.specs.declared.state.Val.TheVariants.{Con, Proc, Int}
 use Rattle.cub_proto.specs.declared.event.Event.{Event}
 use Rattle.cub_proto.specs.declared.event.Event.TheVariants.{Crash, Fire}
 use Rattle.cub_proto.specs.declared.protocol.Decl.{Decl}
 use Rattle.cub_proto.specs.declared.protocol.Protocol.{Protocol}
-use Rattle.cub_proto.specs.Configuration.{Configuration, process_count, is_alive, IsAlive, killed, cells_of}
-use Rattle.cub_proto.specs.Signature.{Signature, declared_sort, target_sort, is_sort}
+use Rattle.cub_proto.specs.Configuration.{Configuration, process_count, is_alive, killed}
+use Rattle.cub_proto.specs.Signature.{Signature, declared_sort, target_sort}
 use Rattle.cub_proto.specs.StateOf.{IsStateOf, IsOfSort, AreCells, signature_of}
 use Rattle.cub_proto.specs.Truth.{all_true, process_at, process_of}
-use Rattle.cub_proto.specs.Fits.{process_side_fits, integer_side_fits, value_fits, branch_fits, conjunction_fits, update_width, update_fits, update_fits_sort, transition_fits, formula_fits, picks_process, targets_rise}
+use Rattle.cub_proto.specs.Fits.{process_side_fits, value_fits, branch_fits, conjunction_fits, update_width, update_fits, update_fits_sort, transition_fits, formula_fits, picks_process, targets_rise}
 use Rattle.cub_proto.specs.Effect.{map_from, chosen, settled, counting, updated, same_target, update_of, global_after, cell_after, cells_after, fired, picked}
-use Rattle.cub_proto.specs.Legal.{IsLegal, IsLegalFire, MayFire, MayPick, TakesPick, AreDistinctAlive, after, fired_by}
-use Rattle.cub_proto.proofs.Tests.{and_left, and_right, all_from}
+use Rattle.cub_proto.specs.Legal.{IsLegal, MayFire, TakesPick, after, fired_by}
+use Rattle.cub_proto.proofs.Elements.{and_left, and_right, all_from}
 use Rattle.cub_proto.proofs.StateValues.{alive_within, sort_is, global_value, fitting_value}
 
 -- what holds of two lists place by place holds again after the second is changed place by place

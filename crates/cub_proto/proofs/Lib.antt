@@ -1,5 +1,5 @@
 pub mod NamesSeen
-pub mod Tests
+pub mod Elements
 pub mod SameParts
 pub mod StateValues
 pub mod KeepsStates

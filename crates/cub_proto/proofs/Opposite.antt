@@ -1,15 +1,13 @@
 -- The negation of a literal is true exactly where the literal is false.
-use Rattle.std.proofs.Common.{◌≡◌, ◌⊎◌, ℕ, zero, suc, ◌+◌, ◌-◌, ◌*◌, ◌^◌, ◌/◌, ◌%◌, ◌<◌, Bool, true, false, not, List, [], ◌∷◌, length, Option, Some, None, ℤ, pos, ◌-ℤ◌, refl, sym, ap, ◌∙◌, subst, arith}
+use Rattle.std.proofs.Common.{◌≡◌, ℕ, zero, suc, ◌-◌, ◌*◌, ◌^◌, ◌/◌, ◌%◌, ◌<◌, Bool, true, false, not, List, length, Option, Some, None, ℤ, pos, ◌-ℤ◌, refl, sym, ap, ◌∙◌, subst, arith}
 use Rattle.std.specs.Prelude.{All, IsTrue, ◌&&◌, ◌==◌, nat_lt, int_le, nat_eq}
 use Rattle.std.specs.Option.{option_map_or}
 use Rattle.std.specs.Int.{bit_at}
 use Rattle.std.proofs.lemmas.Bool.{ltb-true}
-use Rattle.std.proofs.lemmas.Bool.Decides.{nat_tests}
 use Rattle.std.proofs.lemmas.Int.{ints}
 use Rattle.std.proofs.lemmas.Nat.Bits.{bit_at-lt, bit_at_lowest, bit_at-suc}
 use Rattle.std.proofs.Math.Nat.{two-pow-succ}
 use Rattle.cub_proto.specs.declared.literal.Sort.{Sort}
-use Rattle.cub_proto.specs.declared.literal.Sort.TheVariants as Sort
 use Rattle.cub_proto.specs.declared.literal.Term.{Term}
 use Rattle.cub_proto.specs.declared.literal.Lit.{Lit}
 use Rattle.cub_proto.specs.declared.literal.Lit.TheVariants.{FinIn, FinEq, FinNe, ProcEq, ProcNe, Diff}
@@ -19,10 +17,10 @@ use Rattle.cub_proto.specs.declared.protocol.Protocol.{Protocol}
 use Rattle.cub_proto.specs.Configuration.{Configuration, process_count}
 use Rattle.cub_proto.specs.Signature.{Signature, sort_of, constructors_of, constructors_at}
 use Rattle.cub_proto.specs.StateOf.{IsStateOf, IsOfSort, signature_of}
-use Rattle.cub_proto.specs.Truth.{constructor_of, term_value, constructor_at, integer_at, has_bit, is_true}
+use Rattle.cub_proto.specs.Truth.{constructor_of, term_value, constructor_at, integer_at, is_true}
 use Rattle.cub_proto.specs.Fits.{is_finite, place_fits, literal_fits}
 use Rattle.cub_proto.specs.Negation.{negated}
-use Rattle.cub_proto.proofs.Tests.{and_left, and_right}
+use Rattle.cub_proto.proofs.Elements.{and_left, and_right}
 use Rattle.cub_proto.proofs.StateValues.{value_of_sort}
 
 lowest : (half m : ℕ) → m < 2 * half → (2 * half - 1 - m) % 2 ≡ 1 - m % 2

@@ -1,24 +1,21 @@
 -- What a state of a protocol gives: its values are of their sorts.
-use Rattle.std.proofs.Common.{◌≡◌, ◌⊎◌, ℕ, zero, suc, ◌<◌, ◌≤◌, Bool, true, false, List, [], ◌∷◌, length, get_or, Option, Some, None, refl, sym, ap, ◌∙◌, subst, arith, inl, inr}
-use Rattle.std.specs.Prelude.{slice_get, slice_index, All, IsTrue, ◌&&◌}
+use Rattle.std.proofs.Common.{◌≡◌, ◌⊎◌, ℕ, zero, suc, ◌<◌, ◌≤◌, Bool, true, false, List, [], ◌∷◌, length, get_or, Option, Some, None, refl, sym, ap, subst, inl, inr}
+use Rattle.std.specs.Prelude.{slice_get, slice_index, All}
 use Rattle.std.specs.List.{AllZip}
 use Rattle.std.proofs.lemmas.Bool.{ltb-true, eqb-true}
 use Rattle.std.proofs.lemmas.List.{get_or_past}
 use Rattle.std.proofs.lemmas.Option.{slice_get_cases}
 use Rattle.cub_proto.specs.declared.literal.Sort.{Sort}
-use Rattle.cub_proto.specs.declared.literal.Sort.TheVariants as Sort
 use Rattle.cub_proto.specs.declared.literal.Term.{Term}
-use Rattle.cub_proto.specs.declared.literal.Term.TheVariants as Term
-use Rattle.cub_proto.specs.declared.state.Val.{Val}
-use Rattle.cub_proto.specs.declared.state.Val.TheVariants.{Con, Proc, Int}
+use Rattle.cub_proto.specs.declared.state.Val.TheVariants.{Con}
 use Rattle.cub_proto.specs.declared.protocol.Decl.{Decl}
 use Rattle.cub_proto.specs.declared.protocol.Protocol.{Protocol}
-use Rattle.cub_proto.specs.Configuration.{Configuration, process_count, is_alive, IsAlive, cells_of}
-use Rattle.cub_proto.specs.Signature.{Signature, declared_sort, sort_of, same_sort, is_sort}
+use Rattle.cub_proto.specs.Configuration.{Configuration, process_count, IsAlive, cells_of}
+use Rattle.cub_proto.specs.Signature.{declared_sort, sort_of, same_sort, is_sort}
 use Rattle.cub_proto.specs.StateOf.{IsStateOf, IsOfSort, AreCells, signature_of}
 use Rattle.cub_proto.specs.Truth.{term_value}
 use Rattle.cub_proto.specs.Fits.{place_fits, term_fits}
-use Rattle.cub_proto.proofs.Tests.{and_left, and_right}
+use Rattle.cub_proto.proofs.Elements.{and_left, and_right}
 
 -- an item of one list stands to that of the other
 pub zip_at : {A B : Type 0} (R : A → B → Type 0) (xs : List A) (ys : List B) (i : ℕ) (x : A) (d : B) → AllZip R xs ys → slice_get xs i ≡ Some x → R x (get_or ys i d)

@@ -1,7 +1,6 @@
 -- What a state of any protocol is, free of limits: who is alive, and the values of globals and cells.
-use Rattle.std.specs.Prelude.{◌≡◌, ℕ, ◌<◌, ◌^◌, Bool, false, List, [], length, pos, replicate, slice_index_or, slice_set, IsTrue, All}
+use Rattle.std.specs.Prelude.{ℕ, ◌<◌, ◌^◌, Bool, false, List, [], length, slice_index_or, slice_set, IsTrue}
 use Rattle.cub_proto.specs.declared.state.Slot.{Slot}
-use Rattle.cub_proto.specs.declared.state.Slot.TheVariants as Slot
 use Rattle.cub_proto.specs.declared.state.Val.{Val}
 use Rattle.cub_proto.specs.declared.state.Val.TheVariants.{Con}
 

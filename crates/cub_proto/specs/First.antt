@@ -1,7 +1,6 @@
 -- The first value of each sort.
 use Rattle.std.specs.Prelude.{pos}
 use Rattle.cub_proto.specs.declared.literal.Sort.{Sort}
-use Rattle.cub_proto.specs.declared.literal.Sort.TheVariants as Sort
 use Rattle.cub_proto.specs.declared.state.Val.{Val}
 use Rattle.cub_proto.specs.declared.state.Val.TheVariants.{Con, Proc, Int}
 

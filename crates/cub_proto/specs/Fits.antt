@@ -1,28 +1,23 @@
 -- When literals, values, transitions and goals are of the signature, as tests. The type of protocols keeps them.
-use Rattle.std.specs.Prelude.{ℕ, ◌+◌, ◌^◌, ℤ, Bool, true, false, ◌&&◌, ◌||◌, ◌==◌, not, nat_lt, nat_le, unsigned_abs, List, [], ◌∷◌, ◌++◌, length, map, Option, Some, None, slice_get, count_by, flat_map, bytes_eq, codes}
+use Rattle.std.specs.Prelude.{ℕ, ◌+◌, ◌^◌, Bool, true, false, ◌&&◌, ◌||◌, not, nat_lt, nat_le, unsigned_abs, List, [], ◌∷◌, ◌++◌, length, map, Option, Some, None, count_by, flat_map, bytes_eq, codes}
 use Rattle.std.specs.List.{list_all, list_any}
 use Rattle.cub_base.specs.Name.{is_declarable}
 use Rattle.cub_proto.specs.declared.literal.Sort.{Sort}
-use Rattle.cub_proto.specs.declared.literal.Sort.TheVariants as Sort
 use Rattle.cub_proto.specs.declared.literal.Term.{Term}
-use Rattle.cub_proto.specs.declared.literal.Term.TheVariants as Term
 use Rattle.cub_proto.specs.declared.literal.PSide.{PSide}
-use Rattle.cub_proto.specs.declared.literal.PSide.TheVariants as PSide
 use Rattle.cub_proto.specs.declared.literal.ISide.{ISide}
 use Rattle.cub_proto.specs.declared.literal.ISide.TheVariants.{Zero, At}
 use Rattle.cub_proto.specs.declared.literal.Lit.{Lit}
 use Rattle.cub_proto.specs.declared.literal.Lit.TheVariants.{FinIn, FinEq, FinNe, ProcEq, ProcNe, Diff}
 use Rattle.cub_proto.specs.declared.literal.Value.{Value}
-use Rattle.cub_proto.specs.declared.literal.Value.TheVariants as Value
 use Rattle.cub_proto.specs.declared.transition.Target.{Target}
-use Rattle.cub_proto.specs.declared.transition.Target.TheVariants as Target
 use Rattle.cub_proto.specs.declared.transition.Branch.{Branch}
 use Rattle.cub_proto.specs.declared.transition.Update.{Update}
 use Rattle.cub_proto.specs.declared.transition.Transition.{Transition}
 use Rattle.cub_proto.specs.declared.protocol.SortDecl.{SortDecl}
 use Rattle.cub_proto.specs.declared.protocol.Decl.{Decl}
 use Rattle.cub_proto.specs.declared.protocol.Goal.{Goal}
-use Rattle.cub_proto.specs.Signature.{Signature, signature, sort_of, declared_sort, target_sort, constructors_of, constructors_at, same_sort, is_sort, same_finite}
+use Rattle.cub_proto.specs.Signature.{Signature, sort_of, declared_sort, target_sort, constructors_of, constructors_at, same_sort, is_sort, same_finite}
 
 -- the term is there, with its place below the width, and has the sort
 abbrev pub place_fits : ℕ → Term → Bool

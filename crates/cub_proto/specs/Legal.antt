@@ -2,15 +2,13 @@
 use Rattle.std.specs.Prelude.{◌≡◌, ℕ, ◌<◌, Bool, true, false, ◌&&◌, ◌||◌, ◌==◌, nat_lt, List, [], ◌∷◌, ◌++◌, length, Option, Some, None, slice_get, All, AllPairs, Contains, IsTrue, ◌≢◌}
 use Rattle.std.specs.List.{list_all}
 use Rattle.cub_proto.specs.declared.literal.Sort.{Sort}
-use Rattle.cub_proto.specs.declared.literal.Sort.TheVariants as Sort
 use Rattle.cub_proto.specs.declared.literal.Value.TheVariants as Value
 use Rattle.cub_proto.specs.declared.transition.Target.TheVariants as Target
 use Rattle.cub_proto.specs.declared.transition.Update.{Update}
 use Rattle.cub_proto.specs.declared.transition.Transition.{Transition}
 use Rattle.cub_proto.specs.declared.state.Slot.{Slot}
-use Rattle.cub_proto.specs.declared.state.Slot.TheVariants as Slot
 use Rattle.cub_proto.specs.declared.state.Val.{Val}
-use Rattle.cub_proto.specs.declared.state.Val.TheVariants.{Con, Proc, Int}
+use Rattle.cub_proto.specs.declared.state.Val.TheVariants.{Proc}
 use Rattle.cub_proto.specs.declared.event.Chosen.{Chosen}
 use Rattle.cub_proto.specs.declared.event.Event.{Event}
 use Rattle.cub_proto.specs.declared.event.Event.TheVariants.{Crash, Fire}

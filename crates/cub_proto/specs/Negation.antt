@@ -1,5 +1,5 @@
 -- The negation of a literal, which is one literal.
-use Rattle.std.specs.Prelude.{ℕ, ◌-◌, ◌^◌, ◌-ℤ◌, pos, List}
+use Rattle.std.specs.Prelude.{◌-◌, ◌^◌, ◌-ℤ◌, pos}
 use Rattle.cub_proto.specs.declared.literal.Lit.{Lit}
 use Rattle.cub_proto.specs.declared.literal.Lit.TheVariants.{FinIn, FinEq, FinNe, ProcEq, ProcNe, Diff}
 use Rattle.cub_proto.specs.Signature.{Signature, constructors_at}

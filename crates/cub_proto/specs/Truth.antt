@@ -1,17 +1,14 @@
 -- The truth of literals at a state with a process for each place.
-use Rattle.std.specs.Prelude.{ℕ, ◌<◌, ℤ, pos, Bool, not, ◌==◌, ◌-ℤ◌, int_le, List, length, slice_index, IsTrue, All}
+use Rattle.std.specs.Prelude.{ℕ, ◌<◌, ℤ, pos, Bool, not, ◌==◌, ◌-ℤ◌, int_le, List, length, slice_index, All}
 use Rattle.std.specs.List.{list_all, list_any}
 use Rattle.std.specs.Int.{bit_at}
 use Rattle.cub_proto.specs.declared.literal.Term.{Term}
-use Rattle.cub_proto.specs.declared.literal.Term.TheVariants as Term
 use Rattle.cub_proto.specs.declared.literal.PSide.{PSide}
-use Rattle.cub_proto.specs.declared.literal.PSide.TheVariants as PSide
 use Rattle.cub_proto.specs.declared.literal.ISide.{ISide}
 use Rattle.cub_proto.specs.declared.literal.ISide.TheVariants.{Zero, At}
 use Rattle.cub_proto.specs.declared.literal.Lit.{Lit}
 use Rattle.cub_proto.specs.declared.literal.Lit.TheVariants.{FinIn, FinEq, FinNe, ProcEq, ProcNe, Diff}
 use Rattle.cub_proto.specs.declared.state.Slot.{Slot}
-use Rattle.cub_proto.specs.declared.state.Slot.TheVariants as Slot
 use Rattle.cub_proto.specs.declared.state.Val.{Val}
 use Rattle.cub_proto.specs.declared.state.Val.TheVariants.{Con, Proc, Int}
 use Rattle.cub_proto.specs.Configuration.{Configuration, value_at, HasSlot}

@@ -1,5 +1,4 @@
-use Rattle.std.proofs.Common.{◌≡◌, refl, ◌<◌, length, sym, ◌∙◌, arith}
-use Rattle.cub_proto.specs.Seen.{has_name}
+use Rattle.std.proofs.Common.{refl, ◌<◌, length, sym, ◌∙◌, arith}
 use Rattle.cub_proto.proofs.NamesSeen.{stops, goes_on, holds_next}
 use Rattle.cub_proto.proofs.distinct.are_distinct.Goals as goal
 

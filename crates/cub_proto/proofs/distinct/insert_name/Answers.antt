@@ -1,4 +1,3 @@
-use Rattle.std.proofs.Common.{◌≡◌, ℕ, List}
 use Rattle.cub_proto.proofs.distinct.insert_name.Goals as goal
 
 -- the set's own clause, at the key with these bytes

@@ -1,4 +1,4 @@
-use Rattle.std.proofs.Common.{◌≡◌, ◌∙◌}
+use Rattle.std.proofs.Common.{◌∙◌}
 use Rattle.cub_proto.proofs.SameParts.{equal_parts}
 use Rattle.cub_proto.proofs.protocol.Protocol.copy.Goals as goal
 
