@@ -1,1 +1,4 @@
+pub mod Distinct
+pub mod Past
+pub mod Sure
 pub mod Written

@@ -1,4 +1,8 @@
+pub mod Calls
 pub mod Faults
+pub mod FileCounts
+pub mod Files
+pub mod MemoryShelf
+pub mod MemorySink
 pub mod Shelf
 pub mod Sink
-pub mod FileCounts

@@ -22,3 +22,14 @@ mod out_sink;
 
 pub use file_shelf::FileShelf;
 pub use out_sink::OutSink;
+
+// The outside in memory.
+mod calls;
+mod files;
+mod mem_shelf;
+mod mem_sink;
+
+pub use calls::Calls;
+pub use files::{File, Files};
+pub use mem_shelf::MemShelf;
+pub use mem_sink::MemSink;
