@@ -1,3 +1,4 @@
+pub mod Asked
 pub mod Distinct
 pub mod Past
 pub mod Sure

@@ -17,14 +17,16 @@ pub spare_put : (fails : List ℕ) (calls left size : ℕ) → 0 < size →
     size ≤ (if are_past fails calls then left else 0) → ⊥
 spare_put fails calls left size some cause fits =
     (elim (are_past fails calls) as (λ past. are_past fails calls ≡ past → size ≤ (if past then left else 0) → ⊥) [
-      true ↦ λ is within. let none : is_among fails calls ≡ false = not_among fails calls is in grind arith
-    | false ↦ λ is within. omega arith ]) refl fits
+      | true ↦ λ is within. let none : is_among fails calls ≡ false = not_among fails calls is in grind arith
+      | false ↦ λ is within. omega arith
+    ]) refl fits
 
 -- a put uses up no more spare than it takes bytes
 pub spare_stays : (fails : List ℕ) (calls later left less count : ℕ) → calls ≤ later → left ≤ less + count →
     (if are_past fails calls then left else 0) ≤ (if are_past fails later then less else 0) + count
 spare_stays fails calls later left less count order takes =
     (elim (are_past fails calls) as (λ past. are_past fails calls ≡ past →
-        (if past then left else 0) ≤ (if are_past fails later then less else 0) + count) [
-      true ↦ λ is. rw (are_past-later fails calls later order is) takes
-    | false ↦ λ is. omega arith ]) refl
+    (if past then left else 0) ≤ (if are_past fails later then less else 0) + count) [
+      | true ↦ λ is. rw (are_past-later fails calls later order is) takes
+      | false ↦ λ is. omega arith
+    ]) refl

@@ -1,6 +1,5 @@
 -- Where no load of a shelf in memory is to fail any more, the files that it has are given.
-use Rattle.std.proofs.Common.{◌≡◌, ℕ, ◌+◌, ◌≤◌, Bool, true, false, ◌&&◌, List, [], ◌∷◌, ◌++◌, length, length-append, Option, Some, None, Ok, Err, IsTrue, is_some, nat_le, if◌then◌else◌, refl, arith}
-use Rattle.std.proofs.lemmas.Bool.Decides.{nat_tests}
+use Rattle.std.proofs.Common.{◌≡◌, ℕ, ◌≤◌, Bool, true, false, ◌&&◌, List, [], ◌∷◌, ◌++◌, length, length-append, Option, Some, None, Ok, Err, IsTrue, is_some, nat_le, if◌then◌else◌, refl, arith}
 use Rattle.io_edge.specs.declared.files.File.{File}
 use Rattle.io_edge.specs.declared.shelf.LoadFault.TheVariants.{Failed, TooLong}
 use Rattle.io_edge.specs.Calls.{is_among, are_past}
@@ -30,8 +29,9 @@ pub given_not_failed : (content : Option (List ℕ)) (limit : ℕ) → is_some c
 given_not_failed None limit there failed = cc
 given_not_failed (Some bytes) limit there failed =
     (elim (nat_le (length bytes) limit) as (λ fits. (if fits then Ok bytes else Err TooLong) ≡ Err Failed → ⊥) [
-      true ↦ λ given. cc
-    | false ↦ λ given. cc ]) failed
+      | true ↦ λ given. cc
+      | false ↦ λ given. cc
+    ]) failed
 
 -- a sure load does not fail
 pub sure_given : (fails : List ℕ) (files : List File) (call : ℕ) (name : List ℕ) (limit : ℕ) →

@@ -5,11 +5,10 @@ ghost use Rattle.std.specs.Prelude.{◌≡◌, vec_len};
 
 use crate::{LoadFault, Shelf};
 use std::alloc::Global;
-use std::fs;
-use std::io;
 use std::io::{ErrorKind, Read};
 use std::marker::Model;
 use std::rt::Files;
+use std::{fs, io};
 
 /// Reads the files of the runtime.
 #[derive(Drop)]
@@ -95,7 +94,12 @@ enum ReadFault {
 }
 
 // Appends the file's bytes, at most `most` of them.
-fn read_file<R: Files>(files: &R, name: &str, most: u64, bytes: &mut Vec<u8>) -> Result<(), ReadFault> {
+fn read_file<R: Files>(
+    files: &R,
+    name: &str,
+    most: u64,
+    bytes: &mut Vec<u8>,
+) -> Result<(), ReadFault> {
     let file = fs::open(files, name).map_err(|_| ReadFault::Failed)?;
     match file.take(most).read_to_end(bytes) {
         Ok(_) => Ok(()),

@@ -54,7 +54,11 @@ impl Files {
         ensures { option_map (λ bytes. bytes.now) result ≡ content_of self.now name.now }
     {
         let name = name.as_bytes();
-        let file = self.list.as_slice().iter().find(|file| file.name.as_slice() == name)?;
+        let file = self
+            .list
+            .as_slice()
+            .iter()
+            .find(|file| file.name.as_slice() == name)?;
         Some(file.bytes.as_slice())
     }
 

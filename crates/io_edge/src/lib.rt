@@ -33,3 +33,8 @@ pub use calls::Calls;
 pub use files::{File, Files};
 pub use mem_shelf::MemShelf;
 pub use mem_sink::MemSink;
+
+#[cfg(test)]
+mod tests;
+#[cfg(test)]
+mod write_back;

@@ -29,11 +29,11 @@ impl Model for MemShelf {
     ghost Value = { MemoryShelf };
 
     ghost view = { λ shelf. record {
-        files = shelf.files;
-        fails = shelf.fails;
-        asked = shelf.asked;
-        taken = shelf.taken;
-        faults = shelf.faults
+      files = shelf.files;
+      fails = shelf.fails;
+      asked = shelf.asked;
+      taken = shelf.taken;
+      faults = shelf.faults;
     } };
 }
 
@@ -131,7 +131,13 @@ fn ask(asked: &mut Items<Text>, name: &str) -> Result<(), AllocError>
 }
 
 // What the files give within the limit, if this load is not to fail.
-fn give(alloc: Global, files: &Files, fails: bool, name: &str, limit: u64) -> Result<Vec<u8>, LoadFault>
+fn give(
+    alloc: Global,
+    files: &Files,
+    fails: bool,
+    name: &str,
+    limit: u64,
+) -> Result<Vec<u8>, LoadFault>
     ensures given { IfOk result (λ given. outcome_of files.now fails name.now limit ≡ Ok given.items) }
     ensures fault { IfErr result (λ fault. fault ≢ LoadFault.Memory → outcome_of files.now fails name.now limit ≡ Err fault) }
 {

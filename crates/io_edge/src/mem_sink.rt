@@ -29,12 +29,12 @@ impl Model for MemSink {
     ghost Value = { MemorySink };
 
     ghost view = { λ sink. record {
-        written = sink.bytes.items;
-        room = sink.room;
-        most = sink.most;
-        fails = sink.fails;
-        calls = sink.calls;
-        faults = sink.faults
+      written = sink.bytes.items;
+      room = sink.room;
+      most = sink.most;
+      fails = sink.fails;
+      calls = sink.calls;
+      faults = sink.faults;
     } };
 
     ghost invariant = { λ sink. (0 < sink.most) × (vec_len sink.bytes ≤ sink.room) × (sink.room ≤ vec_capacity sink.bytes) };

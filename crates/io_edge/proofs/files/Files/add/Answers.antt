@@ -1,4 +1,3 @@
-use Rattle.std.proofs.Common.{◌≡◌}
 use Rattle.io_edge.proofs.Distinct.{distinct_more}
 use Rattle.io_edge.proofs.files.Files.add.Goals as goal
 
