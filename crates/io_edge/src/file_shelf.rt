@@ -55,7 +55,8 @@ impl<R: Files> FileShelf<R> {
 }
 
 impl<R: Files> Shelf for FileShelf<R> {
-    ghost use Rattle.std.specs.Prelude.{None};
+    ghost use Rattle.std.specs.Prelude.{◌<◌, ◌≤◌, length, None, IfOk, IsErrOf};
+    ghost use Rattle.io_edge.specs.Faults.{Rose, one_higher};
 
     ghost faults = { λ shelf. shelf.faults };
 
@@ -66,7 +67,15 @@ impl<R: Files> Shelf for FileShelf<R> {
     ghost asked = { λ _. None };
 
     /// It takes at most one byte more than `limit`. A name that cannot be opened is a fault.
-    fn load(&mut self, alloc: Global, name: &str, limit: u64) -> Result<Vec<u8>, LoadFault> {
+    fn load(&mut self, alloc: Global, name: &str, limit: u64) -> Result<Vec<u8>, LoadFault>
+        ensures within { IfOk result (λ given. length given.items ≤ limit) }
+        ensures taken { IfOk result (λ given. self.new.taken ≡ length given.items) }
+        ensures too_long { IsErrOf result LoadFault.TooLong → limit < self.new.taken }
+        ensures failed { IsErrOf result LoadFault.Failed → Rose self.old.faults self.new.faults }
+        ensures never_falls { self.old.faults ≤ self.new.faults }
+        ensures one_fault { IsErrOf result LoadFault.Failed → self.new.faults ≡ one_higher self.old.faults }
+        ensures no_fault { ¬ (IsErrOf result LoadFault.Failed) → self.new.faults ≡ self.old.faults }
+    {
         let mut bytes = Vec::new(alloc);
         let read = read_file(&self.files, name, limit.saturating_add(1), &mut bytes);
         self.taken = bytes.len() as u64;

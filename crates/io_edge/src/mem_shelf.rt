@@ -99,6 +99,7 @@ impl Shelf for MemShelf {
         ensures one_fault { IsErrOf result LoadFault.Failed → self.new.faults ≡ one_higher self.old.faults }
         ensures no_fault { ¬ (IsErrOf result LoadFault.Failed) → self.new.faults ≡ self.old.faults }
         ensures taken { IfOk result (λ given. self.new.taken ≡ length given.items) }
+        ensures not_taken { OnErr result (self.new.taken ≡ 0) }
         ensures files { self.new.files ≡ self.old.files }
         ensures fails { self.new.fails ≡ self.old.fails }
     {

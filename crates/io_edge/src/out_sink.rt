@@ -43,14 +43,22 @@ impl<P: Print> OutSink<P> {
 }
 
 impl<P: Print> Sink for OutSink<P> {
-    ghost use Rattle.std.specs.Prelude.{None};
+    ghost use Rattle.std.specs.Prelude.{◌<◌, ◌≤◌, length, None, IfOk, OnOk, OnErr};
+    ghost use Rattle.io_edge.specs.Faults.{Rose, one_higher};
 
     ghost written = { λ _. None };
 
     ghost faults = { λ faults. faults };
 
     /// A write that a signal interrupts is tried again. One that takes nothing of the piece is a fault.
-    fn put(&mut self, bytes: &[u8]) -> Result<usize, Failed> {
+    fn put(&mut self, bytes: &[u8]) -> Result<usize, Failed>
+        ensures some { IfOk result (λ count. 0 < count) }
+        ensures within { IfOk result (λ count. count ≤ length bytes.now) }
+        ensures failed { OnErr result (Rose self.old self.new) }
+        ensures never_falls { self.old ≤ self.new }
+        ensures one_fault { OnErr result (self.new ≡ one_higher self.old) }
+        ensures no_fault { OnOk result (self.new ≡ self.old) }
+    {
         for _ in 0..u64::MAX {
             match self.out.write_some(bytes) {
                 Ok(0) => break,
