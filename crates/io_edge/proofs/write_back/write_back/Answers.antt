@@ -1,4 +1,4 @@
-use Rattle.io_edge.proofs.Asked.{asks_first, asks_second, added_at_ok}
+use Rattle.io_edge.proofs.Asked.{asks_first}
 use Rattle.io_edge.proofs.write_back.write_back.Goals as goal
 
 pub returns-in-Ok-clause-asked : goal.returns-in-Ok-clause-asked
