@@ -8,6 +8,7 @@ use std::test::Fail;
 
 // The text of tokens, as `Kind@at+len` each.
 fn shown(rt: &impl Abort, alloc: Global, text: &[u8]) -> Result<String, Fail> {
+    assert!(rt; text.len() < 1_048_577);
     let mut out = String::new(alloc);
     match lex(alloc, text) {
         Ok(tokens) => {
@@ -17,7 +18,7 @@ fn shown(rt: &impl Abort, alloc: Global, text: &[u8]) -> Result<String, Fail> {
             }
         }
         Err(LexFault::Fault { at, kind }) => {
-            assert!(rt; at as usize <= text.len() && text.len() < 1_048_577);
+            assert!(rt; at as usize <= text.len());
             let (line, column) = place(text, at);
             write!(out, "{kind:?} {at} {line}:{column}")?;
         }
