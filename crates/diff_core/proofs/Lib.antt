@@ -1,0 +1,6 @@
+pub mod Paths
+pub mod Closed
+pub mod Relaxed
+pub mod Grown
+pub mod Exact
+pub mod Rows

@@ -1,0 +1,5 @@
+pub mod Constraints
+pub mod Closed
+pub mod Closure
+pub mod Table
+pub mod Relaxes

@@ -1,0 +1,7 @@
+//! Difference constraints over numbered nodes.
+#![tactic(auto)]
+
+pub mod closure;
+pub mod constraint;
+
+pub use constraint::Constraint;
