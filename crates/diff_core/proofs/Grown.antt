@@ -6,6 +6,7 @@ use Rattle.std.proofs.lemmas.Bool.{eqb-true, eq-eqb}
 use Rattle.std.proofs.lemmas.Bool.Decides.{eqb_tells}
 use Rattle.diff_core.specs.Constraints.{constraint_at, IsPath, Fits, Solves, HasSolution}
 use Rattle.diff_core.specs.Closure.{IsClosure}
+use Rattle.diff_core.specs.Table.{IsFresh}
 use Rattle.diff_core.specs.declared.constraint.Constraint.{Constraint}
 use Rattle.diff_core.specs.Closed.{Closed, Simple, Between, count}
 use Rattle.diff_core.proofs.Closed.{Covers, covered_path, count_some, near_joined}
@@ -113,10 +114,6 @@ refuted n far e cs con a_in b_in is near negative (v, holds) =
     let here : length cs < length (cs ++ con ∷ []) = omega (arith, length-append cs (con ∷ [])) in
     let kept : (v con.left -ℤ v con.right) ≤ℤ con.bound = subst (λ (x : Constraint). (v x.left -ℤ v x.right) ≤ℤ x.bound) new (holds (length cs) here) in
     omega (arith, ints, old, kept, negative)
-
--- the table of no constraints: 0 on the diagonal, and no bound elsewhere
-abbrev pub IsFresh : ℕ → ℤ → (ℕ → ℕ → ℤ) → Type 0
-IsFresh n far e = (i j : ℕ) → i < n → j < n → (i ≡ j → e i j ≡ pos 0) × (i ≢ j → e i j ≡ far)
 
 -- in it only an entry of the diagonal is a bound
 fresh_same : (n : ℕ) (far : ℤ) (e : ℕ → ℕ → ℤ) → IsFresh n far e → (i j : ℕ) → i < n → j < n → e i j <ℤ far → i ≡ j

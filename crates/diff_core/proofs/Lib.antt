@@ -4,3 +4,4 @@ pub mod Relaxed
 pub mod Grown
 pub mod Exact
 pub mod Rows
+pub mod Tables

@@ -1,5 +1,5 @@
 -- What a closure holds: the number of its nodes, and its entries row by row.
-use Rattle.std.specs.Prelude.{◌≡◌, ℕ, ◌<◌, ◌≤◌, ◌+◌, ◌*◌, ℤ, pos, List, length, slice_index_or}
+use Rattle.std.specs.Prelude.{◌≡◌, ◌≢◌, ℕ, ◌<◌, ◌≤◌, ◌+◌, ◌*◌, ℤ, pos, List, length, slice_index_or}
 use Rattle.diff_core.specs.Closed.{Closed}
 use Rattle.diff_core.specs.Closure.{IsClosure}
 use Rattle.diff_core.specs.declared.constraint.Constraint.{Constraint}
@@ -26,3 +26,7 @@ pub record IsTable (nodes : ℕ) (entries : List ℤ) : Type 0 where
   pub few : nodes ≤ 105
   pub size : length entries ≡ 11025
   pub closed : Closed nodes 281474976710656 far (cell entries)
+
+-- the table of no constraints: 0 on the diagonal, and no bound elsewhere
+abbrev pub IsFresh : ℕ → ℤ → (ℕ → ℕ → ℤ) → Type 0
+IsFresh n far e = (i j : ℕ) → i < n → j < n → (i ≡ j → e i j ≡ pos 0) × (i ≢ j → e i j ≡ far)

@@ -9,9 +9,10 @@
 //!
 //! (Incremental transitive closure with least sums: the inner step of Floyd's and Warshall's algorithm.)
 
-ghost use Rattle.std.specs.Prelude.{◌≡◌, ◌≢◌, ℕ, ◌+◌, ◌*◌, ◌<◌, ◌≤◌, ◌⊎◌, ℤ, pos, ◌+ℤ◌, ◌-ℤ◌, ◌≤ℤ◌, ◌<ℤ◌, List, [], ◌∷◌, ◌++◌, length, IsTrue, false, slice_index_or, OnOk};
+ghost use Rattle.std.specs.Prelude.{◌≡◌, ◌≢◌, ℕ, ◌+◌, ◌*◌, ◌<◌, ◌≤◌, ◌⊎◌, ℤ, pos, ◌+ℤ◌, ◌-ℤ◌, ◌≤ℤ◌, ◌<ℤ◌, List, [], ◌∷◌, ◌++◌, length, IsTrue, false, slice_index_or, IfOk};
+ghost use Rattle.diff_core.specs.declared.constraint.Constraint.{Constraint};
 ghost use Rattle.diff_core.specs.Constraints.{HasSolution, IsLeastBound, IsLeastSum};
-ghost use Rattle.diff_core.specs.Table.{cell, far, IsClosureOf};
+ghost use Rattle.diff_core.specs.Table.{cell, far, IsClosureOf, IsFresh};
 ghost use Rattle.diff_core.specs.Relaxes.{Lowers, Relaxes, Step};
 
 use crate::constraint::Constraint;
@@ -42,6 +43,79 @@ impl Model for Closure {
     ghost view = { λ s. record { nodes = s.nodes; entries = s.entries.items } };
 
     ghost invariant = { λ s. IsTable s.nodes s.entries.items };
+}
+
+impl Closure {
+    /// A table with no nodes. Later calls take no memory.
+    pub fn new(alloc: Global) -> Result<Closure, AllocError>
+        ensures { IfOk result (λ t. t.nodes ≡ 0) }
+    {
+        let entries = vec![in alloc; 0; NODES * NODES]?;
+        Ok(Closure { nodes: 0, entries })
+    }
+
+    /// Begins anew with this many nodes, and no constraint.
+    pub fn reset(&mut self, nodes: usize)
+        requires { nodes ≤ 105 }
+        ensures nodes { self.new.nodes ≡ nodes }
+        ensures closure { IsClosureOf [] self.new }
+    {
+        clear(&mut self.entries, nodes);
+        self.nodes = nodes;
+    }
+
+    /// Takes one constraint more, or says that it contradicts those so far, and then leaves the table as it is.
+    pub fn take(&mut self, con: &Constraint) -> bool
+        requires left_in { con.now.left < self.old.nodes }
+        requires right_in { con.now.right < self.old.nodes }
+        requires at_least { (pos 0 -ℤ con.now.bound) ≤ℤ pos 281474976710656 }
+        requires at_most { con.now.bound ≤ℤ pos 281474976710656 }
+        ensures nodes { self.new.nodes ≡ self.old.nodes }
+        ensures taken { IsTrue result → (cs : List Constraint) → IsClosureOf cs self.old → IsClosureOf (cs ++ con.now ∷ []) self.new }
+        ensures refuted { result ≡ false → (cs : List Constraint) → IsClosureOf cs self.old → HasSolution (cs ++ con.now ∷ []) → ⊥ }
+        ensures kept { result ≡ false → self.new ≡ self.old }
+        ensures near { result ≡ false → cell self.old.entries con.now.right con.now.left <ℤ far }
+        ensures negative { result ≡ false → (cell self.old.entries con.now.right con.now.left +ℤ con.now.bound) <ℤ pos 0 }
+    {
+        if entry(&self.entries, con.left, con.right) <= con.bound {
+            return true;
+        }
+        if is_cycle(entry(&self.entries, con.right, con.left), con.bound) {
+            return false;
+        }
+        relax(&mut self.entries, self.nodes, con);
+        true
+    }
+
+    /// The least entailed bound of `a - b`, or None where none is entailed.
+    pub fn bound(&self, a: usize, b: usize) -> Option<i64>
+        requires a_in { a < self.now.nodes }
+        requires b_in { b < self.now.nodes }
+        ensures { (cs : List Constraint) → IsClosureOf cs self.now → IsLeastBound cs a b result }
+    {
+        let least = entry(&self.entries, a, b);
+        if least < FAR { Some(least) } else { None }
+    }
+
+    /// The least sum of a path that ends at node `a`.
+    pub fn least_sum(&self, a: usize) -> i64
+        requires { a < self.now.nodes }
+        ensures least { (cs : List Constraint) → IsClosureOf cs self.now → IsLeastSum cs a result }
+        ensures at_most { result ≤ℤ pos 0 }
+        ensures at_least { (pos 0 -ℤ result) ≤ℤ pos 29554872554618880 }
+    {
+        row_least(&self.entries, self.nodes, a)
+    }
+}
+
+// Entry i, j.
+fn entry(entries: &[i64], i: usize, j: usize) -> i64
+    requires size { length entries.now ≡ 11025 }
+    requires i_in { i < 105 }
+    requires j_in { j < 105 }
+    ensures { result ≡ cell entries.now i j }
+{
+    entries[i * NODES + j]
 }
 
 // Entry `at` falls to `first` and entry `from` together, where that is less.
@@ -95,4 +169,64 @@ fn relax(entries: &mut [i64], nodes: usize, con: &Constraint)
             lower_row(entries, nodes, i, con);
         }
     }
+}
+
+// Whether the way back, `back`, makes a negative cycle with a constraint of this bound.
+fn is_cycle(back: i64, bound: i64) -> bool
+    requires small { (pos 0 -ℤ far) ≤ℤ back }
+    requires at_least { (pos 0 -ℤ far) ≤ℤ bound }
+    requires at_most { bound ≤ℤ far }
+    ensures near { IsTrue result → back <ℤ far }
+    ensures negative { IsTrue result → (back +ℤ bound) <ℤ pos 0 }
+    ensures none { result ≡ false → back <ℤ far → pos 0 ≤ℤ (back +ℤ bound) }
+{
+    if back >= FAR {
+        return false;
+    }
+    back + bound < 0
+}
+
+// Clears the row of node `i` in the corner of the first nodes: 0 at the node itself, and no bound elsewhere.
+fn clear_row(entries: &mut [i64], nodes: usize, i: usize)
+    requires size { length entries.old ≡ 11025 }
+    requires few { nodes ≤ 105 }
+    requires i_in { i < nodes }
+    ensures row { (j : ℕ) → j < nodes → (i ≡ j → cell entries.new i j ≡ pos 0) × (i ≢ j → cell entries.new i j ≡ far) }
+    ensures others { (k j : ℕ) → k < nodes → j < nodes → k ≢ i → cell entries.new k j ≡ cell entries.old k j }
+{
+    for j in 0..nodes {
+        entries[i * NODES + j] = FAR;
+    }
+    entries[i * NODES + i] = 0;
+}
+
+// Clears the corner of the first nodes.
+fn clear(entries: &mut [i64], nodes: usize)
+    requires size { length entries.old ≡ 11025 }
+    requires few { nodes ≤ 105 }
+    ensures { IsFresh nodes far (cell entries.new) }
+{
+    for i in 0..nodes {
+        clear_row(entries, nodes, i);
+    }
+}
+
+// The least of the first entries of a row, or 0 where none is less.
+fn row_least(entries: &[i64], nodes: usize, i: usize) -> i64
+    requires size { length entries.now ≡ 11025 }
+    requires few { nodes ≤ 105 }
+    requires i_in { i < nodes }
+    requires diagonal { cell entries.now i i ≡ pos 0 }
+    ensures reached { (j : ℕ) × (j < nodes) × (cell entries.now i j ≡ result) }
+    ensures below { (j : ℕ) → j < nodes → result ≤ℤ cell entries.now i j }
+    ensures at_most { result ≤ℤ pos 0 }
+{
+    let mut least = 0;
+    for j in 0..nodes {
+        let entry = entries[i * NODES + j];
+        if entry < least {
+            least = entry;
+        }
+    }
+    least
 }
