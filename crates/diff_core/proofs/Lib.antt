@@ -5,3 +5,4 @@ pub mod Grown
 pub mod Exact
 pub mod Rows
 pub mod Tables
+pub mod Searching

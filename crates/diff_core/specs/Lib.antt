@@ -3,3 +3,4 @@ pub mod Closed
 pub mod Closure
 pub mod Table
 pub mod Relaxes
+pub mod Search

@@ -16,7 +16,8 @@ ghost use Rattle.diff_core.specs.Table.{cell, far, IsClosureOf, IsFresh};
 ghost use Rattle.diff_core.specs.Relaxes.{Lowers, Relaxes, Step};
 
 use crate::constraint::Constraint;
-use std::alloc::{AllocError, Global};
+use cub_base::Memory;
+use std::alloc::Global;
 use std::marker::Model;
 
 /// The most nodes that a table has room for.
@@ -26,7 +27,7 @@ pub const NODES: usize = 105;
 pub const BOUND: i64 = 281474976710656;
 
 /// No bound: above each sum of bounds.
-const FAR: i64 = 1152921504606846976;
+pub(crate) const FAR: i64 = 1152921504606846976;
 
 /// The least entailed bounds of the differences of up to 105 nodes.
 #[derive(Drop)]
@@ -47,7 +48,7 @@ impl Model for Closure {
 
 impl Closure {
     /// A table with no nodes. Later calls take no memory.
-    pub fn new(alloc: Global) -> Result<Closure, AllocError>
+    pub fn new(alloc: Global) -> Result<Closure, Memory>
         ensures { IfOk result (λ t. t.nodes ≡ 0) }
     {
         let entries = vec![in alloc; 0; NODES * NODES]?;
@@ -109,7 +110,7 @@ impl Closure {
 }
 
 // Entry i, j.
-fn entry(entries: &[i64], i: usize, j: usize) -> i64
+pub(crate) fn entry(entries: &[i64], i: usize, j: usize) -> i64
     requires size { length entries.now ≡ 11025 }
     requires i_in { i < 105 }
     requires j_in { j < 105 }

@@ -4,4 +4,4 @@
 pub mod closure;
 pub mod constraint;
 
-pub use constraint::Constraint;
+pub use constraint::{Constraint, Constraints, Stored};
