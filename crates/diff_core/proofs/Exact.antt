@@ -53,25 +53,34 @@ low far e w n i = (find_low far e w n i).0
 pub low_is : (far : ℤ) (e : ℕ → ℕ → ℤ) (w : ℕ → ℤ) (n i : ℕ) → IsLow far e w n i (low far e w n i)
 low_is far e w n i = (find_low far e w n i).1
 
+-- two bounds in a row give one, by the paths alone
+pub closure_joined : (cs : List Constraint) (n : ℕ) (far : ℤ) (e : ℕ → ℕ → ℤ) → IsClosure cs n far e → (i k j : ℕ) → i < n → k < n → j < n → e i k <ℤ far → e k j <ℤ far → (e i j <ℤ far) × (e i j ≤ℤ (e i k +ℤ e k j))
+closure_joined cs n far e is i k j i_in k_in j_in p q =
+    let first : (ks : List ℕ) × IsPath cs j ks k (e k j) = is.paths k j k_in j_in q in
+    let second : (ks : List ℕ) × IsPath cs k ks i (e i k) = is.paths i k i_in k_in p in
+    let both : IsPath cs j (first.0 ++ second.0) i (e k j +ℤ e i k) = path_join cs j k i first.0 second.0 (e k j) (e i k) first.1 second.1 in
+    (is.near i j i_in j_in (first.0 ++ second.0) (e k j +ℤ e i k) both, omega (arith, ints, is.least i j i_in j_in (first.0 ++ second.0) (e k j +ℤ e i k) both))
+
+-- whatever the weights, the low sums are a solution
+pub low_solves : (cs : List Constraint) (n : ℕ) (far : ℤ) (e : ℕ → ℕ → ℤ) → IsClosure cs n far e → (w : ℕ → ℤ) → Solves (low far e w n) cs
+low_solves cs n far e is w k k_in =
+    let con = constraint_at cs k in
+    let a_in : con.left < n = (is.inside k k_in).0 in
+    let b_in : con.right < n = (is.inside k k_in).1 in
+    let edge : (e con.left con.right ≤ℤ con.bound) × (e con.left con.right <ℤ far) = closure_covers cs n far e is k k_in in
+    let at_a : IsLow far e w n con.left (low far e w n con.left) = low_is far e w n con.left in
+    let at_b : IsLow far e w n con.right (low far e w n con.right) = low_is far e w n con.right in
+    elim at_b.reached
+    [ inl own ↦ omega (arith, ints, own, edge.0, at_a.least con.right b_in edge.1)
+    | inr (x, x_in, near, sum) ↦
+        let both : (e con.left x <ℤ far) × (e con.left x ≤ℤ (e con.left con.right +ℤ e con.right x)) = closure_joined cs n far e is con.left con.right x a_in b_in x_in edge.1 near in
+        omega (arith, ints, sum, edge.0, at_a.least x x_in both.0, both.1) ]
+
+-- a list with a closure has a solution
+pub closure_solved : (cs : List Constraint) (n : ℕ) (far : ℤ) (e : ℕ → ℕ → ℤ) → IsClosure cs n far e → HasSolution cs
+closure_solved cs n far e is = (low far e (λ x. pos 0) n, low_solves cs n far e is (λ x. pos 0))
+
 module _ (cs : List Constraint) (n c : ℕ) (far : ℤ) (e : ℕ → ℕ → ℤ) (closed : Closed n c far e) (wide : pos (2 * (c * n)) <ℤ far) (is : IsClosure cs n far e) where
-
-  -- whatever the weights, the low sums are a solution
-  pub low_solves : (w : ℕ → ℤ) → Solves (low far e w n) cs
-  low_solves w k k_in =
-      let con = constraint_at cs k in
-      let a_in : con.left < n = (is.inside k k_in).0 in
-      let b_in : con.right < n = (is.inside k k_in).1 in
-      let edge : (e con.left con.right ≤ℤ con.bound) × (e con.left con.right <ℤ far) = closure_covers cs n far e is k k_in in
-      let at_a : IsLow far e w n con.left (low far e w n con.left) = low_is far e w n con.left in
-      let at_b : IsLow far e w n con.right (low far e w n con.right) = low_is far e w n con.right in
-      elim at_b.reached
-      [ inl own ↦ omega (arith, ints, own, edge.0, at_a.least con.right b_in edge.1)
-      | inr (x, x_in, near, sum) ↦
-          let both : e con.left x <ℤ far = near_joined n c far e closed wide con.left con.right x a_in b_in x_in edge.1 near in
-          omega (arith, ints, sum, edge.0, at_a.least x x_in both, closed.joined con.left con.right x a_in b_in x_in edge.1 near) ]
-
-  pub closure_solved : HasSolution cs
-  closure_solved = (low far e (λ x. pos 0) n, low_solves (λ x. pos 0))
 
   -- 0 at node j, and elsewhere this much
   abbrev pub weights : ℕ → ℤ → ℕ → ℤ
@@ -90,7 +99,7 @@ module _ (cs : List Constraint) (n c : ℕ) (far : ℤ) (e : ℕ → ℕ → ℤ
       let w : ℕ → ℤ = weights j much in
       let at_i : IsLow far e w n i (low far e w n i) = low_is far e w n i in
       let at_j : IsLow far e w n j (low far e w n j) = low_is far e w n j in
-      let kept : (low far e w n i -ℤ low far e w n j) ≤ℤ l = entailed (low far e w n) (low_solves w) in
+      let kept : (low far e w n i -ℤ low far e w n j) ≤ℤ l = entailed (low far e w n) (low_solves cs n far e is w) in
       let zero_j : w j ≡ pos 0 = weight_same j much in
       let small : Small n c (e i j) = near_small n c far e closed i j i_in j_in near in
       let high : e i j ≤ℤ low far e w n i = elim at_i.reached
@@ -109,7 +118,7 @@ module _ (cs : List Constraint) (n c : ℕ) (far : ℤ) (e : ℕ → ℕ → ℤ
       let w : ℕ → ℤ = weights j much in
       let at_i : IsLow far e w n i (low far e w n i) = low_is far e w n i in
       let at_j : IsLow far e w n j (low far e w n j) = low_is far e w n j in
-      let kept : (low far e w n i -ℤ low far e w n j) ≤ℤ l = entailed (low far e w n) (low_solves w) in
+      let kept : (low far e w n i -ℤ low far e w n j) ≤ℤ l = entailed (low far e w n) (low_solves cs n far e is w) in
       let zero_j : w j ≡ pos 0 = weight_same j much in
       let high : (l +ℤ pos 1) ≤ℤ low far e w n i = elim at_i.reached
         [ inl own ↦ elim (eqb_tells i j)

@@ -39,6 +39,17 @@ pub record IsLeastSum (cs : List Constraint) (y : ℕ) (s : ℤ) : Type 0 where
   pub reached : (x : ℕ) × (ks : List ℕ) × IsPath cs x ks y s
   pub least : (x : ℕ) (ks : List ℕ) (t : ℤ) → IsPath cs x ks y t → s ≤ℤ t
 
--- these numbers are the chosen solution: at each node the least sum of a path that ends there
+-- each constraint is between the first nodes
 abbrev pub Fits : ℕ → List Constraint → Type 0
 Fits nodes cs = (k : ℕ) → k < length cs → ((constraint_at cs k).left < nodes) × ((constraint_at cs k).right < nodes)
+
+-- the constraint is between the first nodes, and its bound is at most 2 ^ 48 in size
+pub record IsInRange (nodes : ℕ) (c : Constraint) : Type 0 where
+  pub left_in : c.left < nodes
+  pub right_in : c.right < nodes
+  pub at_least : (pos 0 -ℤ c.bound) ≤ℤ pos 281474976710656
+  pub at_most : c.bound ≤ℤ pos 281474976710656
+
+-- each constraint is
+abbrev pub AreInRange : ℕ → List Constraint → Type 0
+AreInRange nodes cs = (k : ℕ) → k < length cs → IsInRange nodes (constraint_at cs k)

@@ -3,5 +3,6 @@
 
 pub mod closure;
 pub mod constraint;
+mod search;
 
 pub use constraint::{Constraint, Constraints, Stored};
