@@ -6,3 +6,4 @@ pub mod Exact
 pub mod Rows
 pub mod Tables
 pub mod Searching
+pub mod Ways

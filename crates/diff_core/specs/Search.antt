@@ -1,6 +1,6 @@
 -- The search for a shortest path in a closed table, backwards from its end: a node is marked once a tight constraint
 -- leads from it to a marked node. Its rank says when that was, 0 where it is not marked, and `next` by which constraint.
-use Rattle.std.specs.Prelude.{◌≡◌, ◌≢◌, ℕ, ◌<◌, ◌≤◌, nat_lt, ℤ, ◌+ℤ◌, ◌<ℤ◌, List, length}
+use Rattle.std.specs.Prelude.{◌≡◌, ◌≢◌, ℕ, ◌<◌, ◌≤◌, nat_lt, ℤ, pos, ◌+ℤ◌, ◌<ℤ◌, List, length, take}
 use Rattle.diff_core.specs.declared.constraint.Constraint.{Constraint}
 use Rattle.diff_core.specs.Constraints.{constraint_at}
 use Rattle.diff_core.specs.Closed.{count}
@@ -28,3 +28,13 @@ pub record IsSearch (cs : List Constraint) (e : ℕ → ℕ → ℤ) (n target s
 -- nothing is left to mark by this constraint
 abbrev pub IsDoneAt : ℤ → (ℕ → ℕ → ℤ) → ℕ → (ℕ → ℕ) → Constraint → Type 0
 IsDoneAt far e target rank c = 0 < rank c.left → e target c.left <ℤ far → IsTight e target c → 0 < rank c.right
+
+-- a search by the first constraints that has arrived at the left node of the next one, which makes a negative cycle
+pub record HasArrived (all : List Constraint) (n failed : ℕ) (rank next : ℕ → ℕ) : Type 0 where
+  pub entries : ℕ → ℕ → ℤ
+  pub steps : ℕ
+  pub few : steps ≤ 105
+  pub found : IsSearch (take failed all) entries n (constraint_at all failed).right steps rank next
+  pub marked : 0 < rank (constraint_at all failed).left
+  pub diagonal : entries (constraint_at all failed).right (constraint_at all failed).right ≡ pos 0
+  pub negative : (entries (constraint_at all failed).right (constraint_at all failed).left +ℤ (constraint_at all failed).bound) <ℤ pos 0

@@ -12,7 +12,7 @@ ghost use Rattle.diff_core.specs.declared.constraint.Constraint.{Constraint};
 ghost use Rattle.diff_core.specs.Constraints.{constraint_at, IsInRange, AreInRange, IsNegativeCycle};
 ghost use Rattle.diff_core.specs.Closure.{IsClosure};
 ghost use Rattle.diff_core.specs.Table.{cell, far, IsTable};
-ghost use Rattle.diff_core.specs.Search.{IsTight, IsSearch, IsDoneAt};
+ghost use Rattle.diff_core.specs.Search.{IsTight, IsSearch, IsDoneAt, HasArrived};
 
 use crate::closure::{FAR, entry};
 use crate::constraint::{Constraint, Constraints};
@@ -125,4 +125,29 @@ fn search<C: Constraints>(rank: &mut [usize], next: &mut [u64], entries: &[i64],
     while rank[from] == 0 {
         steps = pass(rank, next, entries, nodes, target, constraints, tried, steps);
     }
+}
+
+// Writes the cycle that constraint `failed` makes with the path that the search has found, and answers its length.
+fn write_cycle<C: Constraints>(out: &mut [u64], rank: &[usize], next: &[u64], nodes: usize, constraints: &C, failed: usize) -> usize
+    requires out_size { length out.old ≡ 105 }
+    requires rank_size { length rank.now ≡ 105 }
+    requires next_size { length next.now ≡ 105 }
+    requires few { nodes ≤ 105 }
+    requires failed_in { failed < length (C.list constraints.now) }
+    requires range { AreInRange nodes (C.list constraints.now) }
+    requires arrived { HasArrived (C.list constraints.now) nodes failed (slice_index rank.now) (slice_index next.now) }
+    ensures few { result ≤ 105 }
+    ensures cycle { IsNegativeCycle (C.list constraints.now) (take result out.new) }
+{
+    let con = constraints.get(failed);
+    out[0] = failed as u64;
+    let mut length = 1;
+    let mut node = con.left;
+    while node != con.right {
+        let number = next[node];
+        out[length] = number;
+        length += 1;
+        node = constraints.get(number as usize).left;
+    }
+    length
 }
