@@ -7,7 +7,7 @@ use Rattle.diff_core.specs.Table.{cell, far}
 use Rattle.diff_core.specs.Relaxes.{Step}
 
 -- a list that was written as a slice
-pub written_back : (new items : List ℤ) (len : ℕ) → length new ≡ length items → len ≡ length items → take len (new ++ drop (length new) items) ≡ new
+pub written_back : {A : Type 0} (new items : List A) (len : ℕ) → length new ≡ length items → len ≡ length items → take len (new ++ drop (length new) items) ≡ new
 written_back new items len same whole =
     let here : len ≡ length new = whole ∙ sym same in
     rw (here, take-append_seam) refl

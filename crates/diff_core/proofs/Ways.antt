@@ -6,7 +6,8 @@ use Rattle.diff_core.specs.declared.constraint.Constraint.{Constraint}
 use Rattle.diff_core.specs.Constraints.{constraint_at, IsPath, AreInRange, IsNegativeCycle}
 use Rattle.diff_core.specs.Search.{IsTight, Onward, IsSearch, HasArrived}
 use Rattle.diff_core.proofs.Paths.{path_join, path_one}
-use Rattle.diff_core.proofs.Searching.{constraint_taken}
+use Rattle.diff_core.specs.Table.{cell, IsTable}
+use Rattle.diff_core.proofs.Searching.{constraint_taken, few_marked}
 
 -- the first `len` numbers that are written lead from the right node of the failed constraint to node `here`, as short as can be
 pub record IsWay (all : List Constraint) (n failed : ℕ) (rank next : ℕ → ℕ) (arrived : HasArrived all n failed rank next) (here len : ℕ) (out : List ℕ) : Type 0 where
@@ -71,3 +72,21 @@ module _ (all : List Constraint) (n failed : ℕ) (rank next : ℕ → ℕ) (arr
       let rest : way.total +ℤ arrived.entries (constraint_at all failed).right (constraint_at all failed).right ≡ (constraint_at all failed).bound +ℤ arrived.entries (constraint_at all failed).right (constraint_at all failed).left =
           subst (λ (x : ℕ). way.total +ℤ arrived.entries (constraint_at all failed).right x ≡ (constraint_at all failed).bound +ℤ arrived.entries (constraint_at all failed).right (constraint_at all failed).left) home way.rest in
       ((constraint_at all failed).right, way.total, path, omega (arith, ints, rest, arrived.diagonal, arrived.negative))
+
+-- a search that has reached the left node of the failed constraint has arrived
+pub has_arrived : (all : List Constraint) (n failed steps : ℕ) (entries : List ℤ) (con : Constraint) (rank next rank' next' : List ℕ) → IsTable n entries → con ≡ constraint_at all failed → con.right < n →
+    IsSearch (take failed all) (cell entries) n con.right steps (λ x. get_or rank x 0) (λ x. get_or next x 0) → 0 < get_or rank con.left 0 →
+    (cell entries (constraint_at all failed).right (constraint_at all failed).left +ℤ (constraint_at all failed).bound) <ℤ pos 0 → rank' ≡ rank → next' ≡ next →
+    HasArrived all n failed (λ x. get_or rank' x 0) (λ x. get_or next' x 0)
+has_arrived all n failed steps entries con rank next rank' next' table con_is right_in found marked negative rank_is next_is =
+    let few : steps ≤ n = few_marked (take failed all) (cell entries) n con.right steps (λ x. get_or rank x 0) (λ x. get_or next x 0) found in
+    let arrived : HasArrived all n failed (λ x. get_or rank x 0) (λ x. get_or next x 0) = record
+        { entries = cell entries
+        ; steps = steps
+        ; few = omega (arith, few, table.few)
+        ; found = subst (λ (c : Constraint). IsSearch (take failed all) (cell entries) n c.right steps (λ x. get_or rank x 0) (λ x. get_or next x 0)) con_is found
+        ; marked = subst (λ (c : Constraint). 0 < get_or rank c.left 0) con_is marked
+        ; diagonal = subst (λ (c : Constraint). cell entries c.right c.right ≡ pos 0) con_is (table.closed.diagonal con.right right_in)
+        ; negative = negative } in
+    subst (λ (r : List ℕ). HasArrived all n failed (λ x. get_or r x 0) (λ x. get_or next' x 0)) (sym rank_is)
+      (subst (λ (m : List ℕ). HasArrived all n failed (λ x. get_or rank x 0) (λ x. get_or m x 0)) (sym next_is) arrived)

@@ -4,3 +4,5 @@ pub mod Closure
 pub mod Table
 pub mod Relaxes
 pub mod Search
+pub mod Sizes
+pub mod Closing

@@ -1,5 +1,5 @@
 -- What a closure holds: the number of its nodes, and its entries row by row.
-use Rattle.std.specs.Prelude.{◌≡◌, ◌≢◌, ℕ, ◌<◌, ◌≤◌, ◌+◌, ◌*◌, ℤ, pos, List, length, slice_index_or}
+use Rattle.std.specs.Prelude.{◌≡◌, ◌≢◌, ℕ, ◌<◌, ◌≤◌, ◌+◌, ◌*◌, ℤ, pos, ◌+ℤ◌, ◌<ℤ◌, List, length, slice_index_or}
 use Rattle.diff_core.specs.Closed.{Closed}
 use Rattle.diff_core.specs.Closure.{IsClosure}
 use Rattle.diff_core.specs.declared.constraint.Constraint.{Constraint}
@@ -30,3 +30,11 @@ pub record IsTable (nodes : ℕ) (entries : List ℤ) : Type 0 where
 -- the table of no constraints: 0 on the diagonal, and no bound elsewhere
 abbrev pub IsFresh : ℕ → ℤ → (ℕ → ℕ → ℤ) → Type 0
 IsFresh n far e = (i j : ℕ) → i < n → j < n → (i ≡ j → e i j ≡ pos 0) × (i ≢ j → e i j ≡ far)
+
+-- there is a path back from the constraint's left node to its right one
+abbrev pub IsNear : Table → Constraint → Type 0
+IsNear t c = cell t.entries c.right c.left <ℤ far
+
+-- that path and the constraint make a negative cycle
+abbrev pub ClosesNegative : Table → Constraint → Type 0
+ClosesNegative t c = (cell t.entries c.right c.left +ℤ c.bound) <ℤ pos 0

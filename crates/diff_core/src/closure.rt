@@ -9,13 +9,13 @@
 //!
 //! (Incremental transitive closure with least sums: the inner step of Floyd's and Warshall's algorithm.)
 
-ghost use Rattle.std.specs.Prelude.{◌≡◌, ◌≢◌, ℕ, ◌+◌, ◌*◌, ◌<◌, ◌≤◌, ◌⊎◌, ℤ, pos, ◌+ℤ◌, ◌-ℤ◌, ◌≤ℤ◌, ◌<ℤ◌, List, [], ◌∷◌, ◌++◌, length, IsTrue, false, slice_index_or, IfOk};
+ghost use Rattle.std.specs.Prelude.{◌≡◌, ◌≢◌, ℕ, ◌+◌, ◌*◌, ◌<◌, ◌≤◌, ◌⊎◌, ℤ, pos, ◌+ℤ◌, ◌-ℤ◌, ◌≤ℤ◌, ◌<ℤ◌, List, [], ◌∷◌, ◌++◌, length, take, IsTrue, false, slice_index_or, IfOk};
 ghost use Rattle.diff_core.specs.declared.constraint.Constraint.{Constraint};
-ghost use Rattle.diff_core.specs.Constraints.{HasSolution, IsLeastBound, IsLeastSum};
-ghost use Rattle.diff_core.specs.Table.{cell, far, IsClosureOf, IsFresh};
+ghost use Rattle.diff_core.specs.Constraints.{constraint_at, AreInRange, HasSolution, IsLeastBound, IsLeastSum};
+ghost use Rattle.diff_core.specs.Table.{cell, far, IsClosureOf, IsFresh, IsNear, ClosesNegative, IsTable};
 ghost use Rattle.diff_core.specs.Relaxes.{Lowers, Relaxes, Step};
 
-use crate::constraint::Constraint;
+use crate::constraint::{Constraint, Constraints};
 use cub_base::Memory;
 use std::alloc::Global;
 use std::marker::Model;
@@ -47,6 +47,22 @@ impl Model for Closure {
 }
 
 impl Closure {
+    // The rows of the table.
+    pub(crate) fn entries(&self) -> &[i64]
+        ensures entries { result.now ≡ self.now.entries }
+        ensures table { IsTable self.now.nodes self.now.entries }
+    {
+        let _ = &self.nodes;
+        &self.entries
+    }
+
+    // How many nodes the table has.
+    pub(crate) fn nodes(&self) -> usize
+        ensures { result ≡ self.now.nodes }
+    {
+        self.nodes
+    }
+
     /// A table with no nodes. Later calls take no memory.
     pub fn new(alloc: Global) -> Result<Closure, Memory>
         ensures { IfOk result (λ t. t.nodes ≡ 0) }
@@ -75,8 +91,8 @@ impl Closure {
         ensures taken { IsTrue result → (cs : List Constraint) → IsClosureOf cs self.old → IsClosureOf (cs ++ con.now ∷ []) self.new }
         ensures refuted { result ≡ false → (cs : List Constraint) → IsClosureOf cs self.old → HasSolution (cs ++ con.now ∷ []) → ⊥ }
         ensures kept { result ≡ false → self.new ≡ self.old }
-        ensures near { result ≡ false → cell self.old.entries con.now.right con.now.left <ℤ far }
-        ensures negative { result ≡ false → (cell self.old.entries con.now.right con.now.left +ℤ con.now.bound) <ℤ pos 0 }
+        ensures near { result ≡ false → IsNear self.old con.now }
+        ensures negative { result ≡ false → ClosesNegative self.old con.now }
     {
         if entry(&self.entries, con.left, con.right) <= con.bound {
             return true;
@@ -86,6 +102,26 @@ impl Closure {
         }
         relax(&mut self.entries, self.nodes, con);
         true
+    }
+
+    /// Takes constraints in order, as far as none contradicts those before it, and answers how many it has taken.
+    pub fn take_all<C: Constraints>(&mut self, constraints: &C) -> usize
+        requires empty { IsClosureOf [] self.old }
+        requires range { AreInRange self.old.nodes (C.list constraints.now) }
+        ensures nodes { self.new.nodes ≡ self.old.nodes }
+        ensures count { result ≤ length (C.list constraints.now) }
+        ensures taken { IsClosureOf (take result (C.list constraints.now)) self.new }
+        ensures near { result < length (C.list constraints.now) → IsNear self.new (constraint_at (C.list constraints.now) result) }
+        ensures negative { result < length (C.list constraints.now) → ClosesNegative self.new (constraint_at (C.list constraints.now) result) }
+    {
+        let count = constraints.count();
+        for k in 0..count {
+            let con = constraints.get(k);
+            if !self.take(&con) {
+                return k;
+            }
+        }
+        count
     }
 
     /// The least entailed bound of `a - b`, or None where none is entailed.

@@ -11,11 +11,14 @@ ghost use Rattle.std.specs.Prelude.{◌≡◌, ◌≢◌, ℕ, ◌+◌, ◌*◌,
 ghost use Rattle.diff_core.specs.declared.constraint.Constraint.{Constraint};
 ghost use Rattle.diff_core.specs.Constraints.{constraint_at, IsInRange, AreInRange, IsNegativeCycle};
 ghost use Rattle.diff_core.specs.Closure.{IsClosure};
-ghost use Rattle.diff_core.specs.Table.{cell, far, IsTable};
+ghost use Rattle.diff_core.specs.Table.{cell, far, IsTable, IsClosureOf, IsNear, ClosesNegative};
 ghost use Rattle.diff_core.specs.Search.{IsTight, IsSearch, IsDoneAt, HasArrived};
 
-use crate::closure::{FAR, entry};
+use crate::closure::{Closure, FAR, NODES, entry};
 use crate::constraint::{Constraint, Constraints};
+use cub_base::Memory;
+use std::alloc::Global;
+use std::marker::Model;
 
 // Whether a shortest path to the target goes over the constraint.
 fn is_tight(entries: &[i64], nodes: usize, target: usize, con: &Constraint) -> bool
@@ -150,4 +153,61 @@ fn write_cycle<C: Constraints>(out: &mut [u64], rank: &[usize], next: &[u64], no
         node = constraints.get(number as usize).left;
     }
     length
+}
+
+// Finds the cycle of a contradiction, and keeps it.
+#[derive(Drop)]
+pub struct CycleFinder {
+    rank: Vec<usize>,
+    next: Vec<u64>,
+    cycle: Vec<u64>,
+    length: usize,
+}
+
+impl Model for CycleFinder {
+    ghost use Rattle.std.specs.Prelude.{◌≡◌, ◌≤◌, ℕ, List, length, take};
+    ghost use Rattle.diff_core.specs.Sizes.{AreSizes};
+
+    ghost Value = { List ℕ };
+
+    ghost view = { λ s. take s.length s.cycle.items };
+
+    ghost invariant = { λ s. AreSizes s.rank.items s.next.items s.cycle.items s.length };
+}
+
+impl CycleFinder {
+    // With no cycle yet. Later calls take no memory.
+    pub fn new(alloc: Global) -> Result<CycleFinder, Memory> {
+        let rank = vec![in alloc; 0; NODES]?;
+        let next = vec![in alloc; 0; NODES]?;
+        let cycle = vec![in alloc; 0; NODES]?;
+        Ok(CycleFinder {
+            rank,
+            next,
+            cycle,
+            length: 0,
+        })
+    }
+
+    // The cycle that constraint `failed` makes with those before it.
+    pub fn find<C: Constraints>(&mut self, closure: &Closure, constraints: &C, failed: usize)
+        requires failed_in { failed < length (C.list constraints.now) }
+        requires range { AreInRange closure.now.nodes (C.list constraints.now) }
+        requires closure { IsClosureOf (take failed (C.list constraints.now)) closure.now }
+        requires near { IsNear closure.now (constraint_at (C.list constraints.now) failed) }
+        requires negative { ClosesNegative closure.now (constraint_at (C.list constraints.now) failed) }
+        ensures { IsNegativeCycle (C.list constraints.now) self.new }
+    {
+        let con = constraints.get(failed);
+        let nodes = closure.nodes();
+        search(&mut self.rank, &mut self.next, closure.entries(), nodes, con.right, con.left, constraints, failed);
+        self.length = write_cycle(&mut self.cycle, &self.rank, &self.next, nodes, constraints, failed);
+    }
+
+    // The cycle that was found last.
+    pub fn cycle(&self) -> &[u64]
+        ensures { result.now ≡ self.now }
+    {
+        &self.cycle[..self.length]
+    }
 }
