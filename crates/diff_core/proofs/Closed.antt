@@ -19,9 +19,10 @@ count_le (suc n) s =
 pub count_some : (n : ℕ) (s : ℕ → Bool) (x : ℕ) → x < n → s x ≡ true → 1 ≤ count n s
 count_some zero s x x_in on = absurd (omega (arith, x_in))
 count_some (suc n) s x x_in on =
-    elim (eqb_tells x n)
-    [ inl h ↦ let here : s n ≡ true = subst (λ (y : ℕ). s y ≡ true) h.1 on in rw here (omega arith)
-    | inr h ↦ let before : x < n = omega (arith, x_in, h.1) in omega (arith, count_some n s x before on) ]
+    elim (eqb_tells x n) [
+      | inl h ↦ let here : s n ≡ true = subst (λ (y : ℕ). s y ≡ true) h.1 on in rw here (omega arith)
+      | inr h ↦ let before : x < n = omega (arith, x_in, h.1) in omega (arith, count_some n s x before on)
+    ]
 
 pub count_union : (n : ℕ) (s t : ℕ → Bool) → ((x : ℕ) → x < n → s x ≡ true → t x ≡ true → ⊥) → count n (union s t) ≡ count n s + count n t
 count_union zero s t apart = omega arith
@@ -29,12 +30,12 @@ count_union (suc n) s t apart =
     let below : count n (union s t) ≡ count n s + count n t = count_union n s t (λ x h. apart x (omega arith)) in
     let here : s n ≡ true → t n ≡ true → ⊥ = apart n (omega arith) in
     counted (s n) (t n) (count n (union s t)) (count n s) (count n t) below here
-    where
-      counted : (b d : Bool) (u p q : ℕ) → u ≡ p + q → (b ≡ true → d ≡ true → ⊥) → u + cond (cond b true d) 1 0 ≡ (p + cond b 1 0) + (q + cond d 1 0)
-      counted true true u p q e h = absurd (h refl refl)
-      counted true false u p q e h = omega arith
-      counted false true u p q e h = omega arith
-      counted false false u p q e h = omega arith
+  where
+    counted : (b d : Bool) (u p q : ℕ) → u ≡ p + q → (b ≡ true → d ≡ true → ⊥) → u + cond (cond b true d) 1 0 ≡ (p + cond b 1 0) + (q + cond d 1 0)
+    counted true true u p q e h = absurd (h refl refl)
+    counted true false u p q e h = omega arith
+    counted false true u p q e h = omega arith
+    counted false false u p q e h = omega arith
 
 -- an entry that is a bound is small
 pub record Small (n c : ℕ) (z : ℤ) : Type 0 where

@@ -26,26 +26,30 @@ more_low : (far : ℤ) (e : ℕ → ℕ → ℤ) (w : ℕ → ℤ) (n i : ℕ) (
 more_low far e w n i s t was below here kind = record { reached = reached; own = omega (arith, ints, was.own, below); least = least }
   where
     reached : (t ≡ w i) ⊎ ((x : ℕ) × (x < suc n) × (e i x <ℤ far) × (t ≡ w x +ℤ e i x))
-    reached = elim kind
-      [ inl same ↦ elim was.reached
-          [ inl own ↦ inl (omega (arith, ints, same, own))
-          | inr (x, x_in, near, sum) ↦ inr (x, omega (arith, x_in), near, omega (arith, ints, same, sum)) ]
-      | inr (near, sum) ↦ inr (n, omega arith, near, sum) ]
+    reached = elim kind [
+      | inl same ↦ elim was.reached [
+        | inl own ↦ inl (omega (arith, ints, same, own))
+        | inr (x, x_in, near, sum) ↦ inr (x, omega (arith, x_in), near, omega (arith, ints, same, sum))
+      ]
+      | inr (near, sum) ↦ inr (n, omega arith, near, sum)
+    ]
+
     least : (x : ℕ) → x < suc n → e i x <ℤ far → t ≤ℤ (w x +ℤ e i x)
     least x x_in near =
-        elim (eqb_tells x n)
-        [ inl h ↦ subst (λ (y : ℕ). e i y <ℤ far → t ≤ℤ (w y +ℤ e i y)) (sym h.1) here near
-        | inr h ↦ let before : x < n = omega (arith, x_in, h.1) in omega (arith, ints, below, was.least x before near) ]
+        elim (eqb_tells x n) [
+          | inl h ↦ subst (λ (y : ℕ). e i y <ℤ far → t ≤ℤ (w y +ℤ e i y)) (sym h.1) here near
+          | inr h ↦ let before : x < n = omega (arith, x_in, h.1) in omega (arith, ints, below, was.least x before near)
+        ]
 
 pub find_low : (far : ℤ) (e : ℕ → ℕ → ℤ) (w : ℕ → ℤ) (n i : ℕ) → (s : ℤ) × IsLow far e w n i s
 find_low far e w zero i = (w i, record { reached = inl refl; own = omega (arith, ints); least = λ x x_in near. absurd (omega (arith, x_in)) })
 find_low far e w (suc n) i =
     let was : (s : ℤ) × IsLow far e w n i s = find_low far e w n i in
     by_lt_z (e i n) far
-      (λ near. by_lt_z (w n +ℤ e i n) was.0
-        (λ less. (w n +ℤ e i n, more_low far e w n i was.0 (w n +ℤ e i n) was.1 (omega (arith, ints, less)) (λ h. omega (arith, ints)) (inr (near, refl))))
-        (λ more. (was.0, more_low far e w n i was.0 was.0 was.1 (omega (arith, ints)) (λ h. omega (arith, ints, more)) (inl refl))))
-      (λ none. (was.0, more_low far e w n i was.0 was.0 was.1 (omega (arith, ints)) (λ h. absurd (omega (arith, ints, h, none))) (inl refl)))
+    (λ near. by_lt_z (w n +ℤ e i n) was.0
+    (λ less. (w n +ℤ e i n, more_low far e w n i was.0 (w n +ℤ e i n) was.1 (omega (arith, ints, less)) (λ h. omega (arith, ints)) (inr (near, refl))))
+    (λ more. (was.0, more_low far e w n i was.0 was.0 was.1 (omega (arith, ints)) (λ h. omega (arith, ints, more)) (inl refl))))
+    (λ none. (was.0, more_low far e w n i was.0 was.0 was.1 (omega (arith, ints)) (λ h. absurd (omega (arith, ints, h, none))) (inl refl)))
 
 abbrev pub low : ℤ → (ℕ → ℕ → ℤ) → (ℕ → ℤ) → ℕ → ℕ → ℤ
 low far e w n i = (find_low far e w n i).0
@@ -70,18 +74,18 @@ low_solves cs n far e is w k k_in =
     let edge : (e con.left con.right ≤ℤ con.bound) × (e con.left con.right <ℤ far) = closure_covers cs n far e is k k_in in
     let at_a : IsLow far e w n con.left (low far e w n con.left) = low_is far e w n con.left in
     let at_b : IsLow far e w n con.right (low far e w n con.right) = low_is far e w n con.right in
-    elim at_b.reached
-    [ inl own ↦ omega (arith, ints, own, edge.0, at_a.least con.right b_in edge.1)
-    | inr (x, x_in, near, sum) ↦
-        let both : (e con.left x <ℤ far) × (e con.left x ≤ℤ (e con.left con.right +ℤ e con.right x)) = closure_joined cs n far e is con.left con.right x a_in b_in x_in edge.1 near in
-        omega (arith, ints, sum, edge.0, at_a.least x x_in both.0, both.1) ]
+    elim at_b.reached [
+      | inl own ↦ omega (arith, ints, own, edge.0, at_a.least con.right b_in edge.1)
+      | inr (x, x_in, near, sum) ↦
+          let both : (e con.left x <ℤ far) × (e con.left x ≤ℤ (e con.left con.right +ℤ e con.right x)) = closure_joined cs n far e is con.left con.right x a_in b_in x_in edge.1 near in
+          omega (arith, ints, sum, edge.0, at_a.least x x_in both.0, both.1)
+    ]
 
 -- a list with a closure has a solution
 pub closure_solved : (cs : List Constraint) (n : ℕ) (far : ℤ) (e : ℕ → ℕ → ℤ) → IsClosure cs n far e → HasSolution cs
 closure_solved cs n far e is = (low far e (λ x. pos 0) n, low_solves cs n far e is (λ x. pos 0))
 
 module _ (cs : List Constraint) (n c : ℕ) (far : ℤ) (e : ℕ → ℕ → ℤ) (closed : Closed n c far e) (wide : pos (2 * (c * n)) <ℤ far) (is : IsClosure cs n far e) where
-
   -- 0 at node j, and elsewhere this much
   abbrev pub weights : ℕ → ℤ → ℕ → ℤ
   weights j much x = cond (eqb x j) (pos 0) much
@@ -102,13 +106,16 @@ module _ (cs : List Constraint) (n c : ℕ) (far : ℤ) (e : ℕ → ℕ → ℤ
       let kept : (low far e w n i -ℤ low far e w n j) ≤ℤ l = entailed (low far e w n) (low_solves cs n far e is w) in
       let zero_j : w j ≡ pos 0 = weight_same j much in
       let small : Small n c (e i j) = near_small n c far e closed i j i_in j_in near in
-      let high : e i j ≤ℤ low far e w n i = elim at_i.reached
-        [ inl own ↦ elim (eqb_tells i j)
-            [ inl h ↦ omega (arith, ints, own, subst (λ (y : ℕ). weights j much y ≡ pos 0) (sym h.1) zero_j, subst (λ (y : ℕ). e i y ≡ pos 0) h.1 (closed.diagonal i i_in))
-            | inr h ↦ omega (arith, ints, own, weight_other j much i h.0, small.above) ]
-        | inr (x, x_in, there, sum) ↦ elim (eqb_tells x j)
-            [ inl h ↦ omega (arith, ints, zero_j, subst (λ (y : ℕ). low far e w n i ≡ w y +ℤ e i y) h.1 sum)
-            | inr h ↦ omega (arith, ints, sum, weight_other j much x h.0, small.above, (near_small n c far e closed i x i_in x_in there).below) ] ] in
+      let high : e i j ≤ℤ low far e w n i = elim at_i.reached [
+        | inl own ↦ elim (eqb_tells i j) [
+          | inl h ↦ omega (arith, ints, own, subst (λ (y : ℕ). weights j much y ≡ pos 0) (sym h.1) zero_j, subst (λ (y : ℕ). e i y ≡ pos 0) h.1 (closed.diagonal i i_in))
+          | inr h ↦ omega (arith, ints, own, weight_other j much i h.0, small.above)
+        ]
+        | inr (x, x_in, there, sum) ↦ elim (eqb_tells x j) [
+          | inl h ↦ omega (arith, ints, zero_j, subst (λ (y : ℕ). low far e w n i ≡ w y +ℤ e i y) h.1 sum)
+          | inr h ↦ omega (arith, ints, sum, weight_other j much x h.0, small.above, (near_small n c far e closed i x i_in x_in there).below)
+        ]
+      ] in
       omega (arith, ints, kept, high, at_j.own, zero_j)
 
   -- nothing is entailed where there is no entry
@@ -120,13 +127,16 @@ module _ (cs : List Constraint) (n c : ℕ) (far : ℤ) (e : ℕ → ℕ → ℤ
       let at_j : IsLow far e w n j (low far e w n j) = low_is far e w n j in
       let kept : (low far e w n i -ℤ low far e w n j) ≤ℤ l = entailed (low far e w n) (low_solves cs n far e is w) in
       let zero_j : w j ≡ pos 0 = weight_same j much in
-      let high : (l +ℤ pos 1) ≤ℤ low far e w n i = elim at_i.reached
-        [ inl own ↦ elim (eqb_tells i j)
-            [ inl h ↦ absurd (omega (arith, ints, none, wide, subst (λ (y : ℕ). e i y ≡ pos 0) h.1 (closed.diagonal i i_in)))
-            | inr h ↦ omega (arith, ints, own, weight_other j much i h.0) ]
-        | inr (x, x_in, there, sum) ↦ elim (eqb_tells x j)
-            [ inl h ↦ absurd (omega (arith, ints, none, subst (λ (y : ℕ). e i y <ℤ far) h.1 there))
-            | inr h ↦ omega (arith, ints, sum, weight_other j much x h.0, (near_small n c far e closed i x i_in x_in there).below) ] ] in
+      let high : (l +ℤ pos 1) ≤ℤ low far e w n i = elim at_i.reached [
+        | inl own ↦ elim (eqb_tells i j) [
+          | inl h ↦ absurd (omega (arith, ints, none, wide, subst (λ (y : ℕ). e i y ≡ pos 0) h.1 (closed.diagonal i i_in)))
+          | inr h ↦ omega (arith, ints, own, weight_other j much i h.0)
+        ]
+        | inr (x, x_in, there, sum) ↦ elim (eqb_tells x j) [
+          | inl h ↦ absurd (omega (arith, ints, none, subst (λ (y : ℕ). e i y <ℤ far) h.1 there))
+          | inr h ↦ omega (arith, ints, sum, weight_other j much x h.0, (near_small n c far e closed i x i_in x_in there).below)
+        ]
+      ] in
       omega (arith, ints, kept, high, at_j.own, zero_j)
 
   -- an entry is entailed
@@ -144,6 +154,7 @@ module _ (cs : List Constraint) (n c : ℕ) (far : ℤ) (e : ℕ → ℕ → ℤ
           let there : e y x <ℤ far = omega (arith, ints, same, near) in
           let way : (ks : List ℕ) × IsPath cs x ks y (e y x) = is.paths y x y_in x_in there in
           (x, way.0, subst (λ (z : ℤ). IsPath cs x way.0 y z) same way.1)
+
       least : (z : ℕ) (ks : List ℕ) (t : ℤ) → IsPath cs z ks y t → s ≤ℤ t
       least z [] t p = omega (arith, ints, below y y_in, closed.diagonal y y_in, p.1)
       least z (k ∷ ks) t p =
@@ -158,5 +169,5 @@ least_sums_solve cs v least k k_in =
     let at_right : IsLeastSum cs con.right (v con.right) = (least k k_in).1 in
     let way : (x : ℕ) × (ks : List ℕ) × IsPath cs x ks con.right (v con.right) = at_right.reached in
     let longer : IsPath cs way.0 (way.1 ++ k ∷ []) con.left (v con.right +ℤ con.bound) =
-        path_join cs way.0 con.right con.left way.1 (k ∷ []) (v con.right) con.bound way.2 (path_one cs k k_in) in
+    path_join cs way.0 con.right con.left way.1 (k ∷ []) (v con.right) con.bound way.2 (path_one cs k k_in) in
     omega (arith, ints, at_left.least way.0 (way.1 ++ k ∷ []) (v con.right +ℤ con.bound) longer)

@@ -3,7 +3,7 @@ use Rattle.std.proofs.Common.{◌≡◌, ℕ, ◌<◌, ◌+◌, ℤ, pos, ◌+�
 use Rattle.std.proofs.Math.ListN.{get_or-append}
 use Rattle.std.proofs.Math.Seq.{get_or-append_seam}
 use Rattle.std.proofs.lemmas.Int.{ints}
-use Rattle.diff_core.specs.Constraints.{constraint_at, Solves, IsPath, Fits, Entails}
+use Rattle.diff_core.specs.Constraints.{constraint_at, Solves, IsPath, Fits, IsNegativeCycle, HasSolution}
 use Rattle.diff_core.specs.declared.constraint.Constraint.{Constraint}
 
 -- two paths in a row are a path
@@ -52,3 +52,7 @@ path_ends cs n fits x y k [] s (k_in, right_is, (same, none)) =
     (rw (← right_is) ((fits k k_in).1), rw (← same) ((fits k k_in).0))
 path_ends cs n fits x y k (j ∷ js) s (k_in, right_is, rest) =
     (rw (← right_is) ((fits k k_in).1), (path_ends cs n fits (constraint_at cs k).left y j js (s -ℤ (constraint_at cs k).bound) rest).1)
+
+-- a negative cycle leaves no solution
+pub cycle_refutes : (cs : List Constraint) (ks : List ℕ) → IsNegativeCycle cs ks → HasSolution cs → ⊥
+cycle_refutes cs ks (x, s, path, negative) (v, holds) = omega (arith, ints, path_holds cs v holds x x ks s path, negative)

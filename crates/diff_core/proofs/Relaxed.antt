@@ -11,7 +11,6 @@ use Rattle.diff_core.proofs.Closed.{union, count_union, Small, near_small, near_
 use Rattle.diff_core.proofs.Paths.{constraint_kept, constraint_next, path_more, path_one, path_join}
 
 module _ (n c : ℕ) (far : ℤ) (e f : ℕ → ℕ → ℤ) (a b : ℕ) (d : ℤ) (step : Step n c far e a b d) (relaxes : Relaxes n far e f a b d) where
-
   -- no entry grows
   pub lower : (i j : ℕ) → i < n → j < n → f i j ≤ℤ e i j
   lower i j i_in j_in = elim (relaxes i j i_in j_in) [ inl kept ↦ omega (arith, ints, kept.same) | inr led ↦ omega (arith, ints, led.less) ]
@@ -31,9 +30,10 @@ module _ (n c : ℕ) (far : ℤ) (e f : ℕ → ℕ → ℤ) (a b : ℕ) (d : �
 
   pub relaxed_diagonal : (i : ℕ) → i < n → f i i ≡ pos 0
   relaxed_diagonal i i_in =
-      elim (relaxes i i i_in i_in)
-      [ inl kept ↦ omega (arith, ints, kept.same, step.closed.diagonal i i_in)
-      | inr led ↦ absurd (omega (arith, ints, led.sum, led.less, step.closed.diagonal i i_in, back i i_in led.from led.to)) ]
+      elim (relaxes i i i_in i_in) [
+        | inl kept ↦ omega (arith, ints, kept.same, step.closed.diagonal i i_in)
+        | inr led ↦ absurd (omega (arith, ints, led.sum, led.less, step.closed.diagonal i i_in, back i i_in led.from led.to))
+      ]
 
   joined_kept : (i k j : ℕ) → i < n → k < n → j < n → Kept far e f a b d i k → Kept far e f a b d k j → f i k <ℤ far → f k j <ℤ far → f i j ≤ℤ (f i k +ℤ f k j)
   joined_kept i k j i_in k_in j_in p q p_near q_near =
@@ -59,9 +59,10 @@ module _ (n c : ℕ) (far : ℤ) (e f : ℕ → ℕ → ℤ) (a b : ℕ) (d : �
 
   pub relaxed_joined : (i k j : ℕ) → i < n → k < n → j < n → f i k <ℤ far → f k j <ℤ far → f i j ≤ℤ (f i k +ℤ f k j)
   relaxed_joined i k j i_in k_in j_in p_near q_near =
-      elim (relaxes i k i_in k_in)
-      [ inl p ↦ elim (relaxes k j k_in j_in) [ inl q ↦ joined_kept i k j i_in k_in j_in p q p_near q_near | inr q ↦ joined_second i k j i_in k_in j_in p q p_near ]
-      | inr p ↦ elim (relaxes k j k_in j_in) [ inl q ↦ joined_first i k j i_in k_in j_in p q q_near | inr q ↦ joined_both i k j i_in k_in j_in p q ] ]
+      elim (relaxes i k i_in k_in) [
+        | inl p ↦ elim (relaxes k j k_in j_in) [ inl q ↦ joined_kept i k j i_in k_in j_in p q p_near q_near | inr q ↦ joined_second i k j i_in k_in j_in p q p_near ]
+        | inr p ↦ elim (relaxes k j k_in j_in) [ inl q ↦ joined_first i k j i_in k_in j_in p q q_near | inr q ↦ joined_both i k j i_in k_in j_in p q ]
+      ]
 
   between_kept : (i j x : ℕ) → i < n → j < n → x < n → Kept far e f a b d i j → Between far e i x j → Between far f i x j
   between_kept i j x i_in j_in x_in kept on =
@@ -90,25 +91,29 @@ module _ (n c : ℕ) (far : ℤ) (e f : ℕ → ℕ → ℤ) (a b : ℕ) (d : �
   simple_kept i j i_in j_in kept near =
       let was : e i j <ℤ far = omega (arith, ints, kept.same, near) in
       let old : Simple n c far e i j = step.closed.simple i j i_in j_in was in
-      record { visited = old.visited
-             ; between = λ x x_in on. between_kept i j x i_in j_in x_in kept (old.between x x_in on)
-             ; above = omega (arith, ints, old.above, kept.same)
-             ; below = omega (arith, ints, old.below, kept.same) }
+      record {
+        visited = old.visited;
+        between = λ x x_in on. between_kept i j x i_in j_in x_in kept (old.between x x_in on);
+        above = omega (arith, ints, old.above, kept.same);
+        below = omega (arith, ints, old.below, kept.same);
+      }
 
   simple_led : (i j : ℕ) → i < n → j < n → Led far e f a b d i j → Simple n c far f i j
   simple_led i j i_in j_in led =
       let p : Simple n c far e i a = step.closed.simple i a i_in step.a_in led.to in
       let q : Simple n c far e b j = step.closed.simple b j step.b_in j_in led.from in
       let both : count n (union p.visited q.visited) ≡ count n p.visited + count n q.visited =
-          count_union n p.visited q.visited (λ x x_in in_p in_q. apart i j x i_in j_in x_in led (p.between x x_in in_p) (q.between x x_in in_q)) in
-      record { visited = union p.visited q.visited
-             ; between = λ x x_in on. either (p.visited x) (q.visited x) (Between far f i x j) on (λ in_p. between_to i j x i_in j_in x_in led (p.between x x_in in_p)) (λ in_q. between_from i j x i_in j_in x_in led (q.between x x_in in_q))
-             ; above = rw both (omega (arith, ints, p.above, q.above, led.sum, step.at_most))
-             ; below = rw both (omega (arith, ints, p.below, q.below, led.sum, step.at_least)) }
-      where
-        either : (s t : Bool) (P : Type 0) → cond s true t ≡ true → (s ≡ true → P) → (t ≡ true → P) → P
-        either true t P on first second = first refl
-        either false t P on first second = second on
+      count_union n p.visited q.visited (λ x x_in in_p in_q. apart i j x i_in j_in x_in led (p.between x x_in in_p) (q.between x x_in in_q)) in
+      record {
+        visited = union p.visited q.visited;
+        between = λ x x_in on. either (p.visited x) (q.visited x) (Between far f i x j) on (λ in_p. between_to i j x i_in j_in x_in led (p.between x x_in in_p)) (λ in_q. between_from i j x i_in j_in x_in led (q.between x x_in in_q));
+        above = rw both (omega (arith, ints, p.above, q.above, led.sum, step.at_most));
+        below = rw both (omega (arith, ints, p.below, q.below, led.sum, step.at_least));
+      }
+    where
+      either : (s t : Bool) (P : Type 0) → cond s true t ≡ true → (s ≡ true → P) → (t ≡ true → P) → P
+      either true t P on first second = first refl
+      either false t P on first second = second on
 
   pub relaxed_simple : (i j : ℕ) → i < n → j < n → f i j <ℤ far → Simple n c far f i j
   relaxed_simple i j i_in j_in near =
@@ -116,4 +121,3 @@ module _ (n c : ℕ) (far : ℤ) (e f : ℕ → ℕ → ℤ) (a b : ℕ) (d : �
 
   pub relaxed_closed : Closed n c far f
   relaxed_closed = record { diagonal = relaxed_diagonal; joined = relaxed_joined; simple = relaxed_simple }
-

@@ -23,17 +23,18 @@ count_same (suc n) s t same =
 pub count_added : (n : ℕ) (s t : ℕ → Bool) (r : ℕ) → r < n → s r ≡ false → t r ≡ true → ((x : ℕ) → x < n → x ≢ r → t x ≡ s x) → count n t ≡ count n s + 1
 count_added zero s t r r_in was now same = absurd (omega (arith, r_in))
 count_added (suc n) s t r r_in was now same =
-    elim (eqb_tells r n)
-    [ inl h ↦
-        let below : count n t ≡ count n s = count_same n s t (λ x x_in. same x (omega (arith, x_in)) (omega (arith, x_in, h.1))) in
-        let was_n : s n ≡ false = subst (λ (y : ℕ). s y ≡ false) h.1 was in
-        let now_n : t n ≡ true = subst (λ (y : ℕ). t y ≡ true) h.1 now in
-        rw (below, was_n, now_n) (omega arith)
-    | inr h ↦
-        let before : r < n = omega (arith, r_in, h.1) in
-        let below : count n t ≡ count n s + 1 = count_added n s t r before was now (λ x x_in other. same x (omega (arith, x_in)) other) in
-        let here : t n ≡ s n = same n (omega arith) (λ e. h.1 (sym e)) in
-        rw (here, below) (omega arith) ]
+    elim (eqb_tells r n) [
+      | inl h ↦
+          let below : count n t ≡ count n s = count_same n s t (λ x x_in. same x (omega (arith, x_in)) (omega (arith, x_in, h.1))) in
+          let was_n : s n ≡ false = subst (λ (y : ℕ). s y ≡ false) h.1 was in
+          let now_n : t n ≡ true = subst (λ (y : ℕ). t y ≡ true) h.1 now in
+          rw (below, was_n, now_n) (omega arith)
+      | inr h ↦
+          let before : r < n = omega (arith, r_in, h.1) in
+          let below : count n t ≡ count n s + 1 = count_added n s t r before was now (λ x x_in other. same x (omega (arith, x_in)) other) in
+          let here : t n ≡ s n = same n (omega arith) (λ e. h.1 (sym e)) in
+          rw (here, below) (omega arith)
+    ]
 
 count_none : (n : ℕ) → count n (λ x. false) ≡ 0
 count_none zero = refl
@@ -50,14 +51,15 @@ pub record Marks (cs : List Constraint) (e : ℕ → ℕ → ℤ) (n target step
 
 -- a search begins at its target
 pub first_search : (cs : List Constraint) (e : ℕ → ℕ → ℤ) (n target : ℕ) (rank next : ℕ → ℕ) → target < n → rank target ≡ 1 → ((x : ℕ) → x < n → x ≢ target → rank x ≡ 0) → IsSearch cs e n target 1 rank next
-first_search cs e n target rank next t_in one none = record
-  { start = omega (arith, one)
-  ; onward = λ x x_in on other. absurd (omega (arith, on, none x x_in other))
-  ; ranks = λ x x_in. elim (eqb_tells x target) [ inl h ↦ omega (arith, one, ap rank h.1) | inr h ↦ omega (arith, none x x_in h.1) ]
-  ; counted =
+first_search cs e n target rank next t_in one none = record {
+  start = omega (arith, one);
+  onward = λ x x_in on other. absurd (omega (arith, on, none x x_in other));
+  ranks = λ x x_in. elim (eqb_tells x target) [ inl h ↦ omega (arith, one, ap rank h.1) | inr h ↦ omega (arith, none x x_in h.1) ];
+  counted =
       let on : nat_lt 0 (rank target) ≡ true = rw one (grind (arith, nat_tests)) in
       let off : (x : ℕ) → x < n → x ≢ target → nat_lt 0 (rank x) ≡ false = λ x x_in other. let zero_is : rank x ≡ 0 = none x x_in other in rw zero_is refl in
-      omega (arith, count_none n, count_added n (λ x. false) (λ x. nat_lt 0 (rank x)) target t_in refl on off) }
+      omega (arith, count_none n, count_added n (λ x. false) (λ x. nat_lt 0 (rank x)) target t_in refl on off);
+}
 
 -- marking keeps the search
 pub marked_search : (cs : List Constraint) (e : ℕ → ℕ → ℤ) (n target steps number : ℕ) (rank next rank' next' : ℕ → ℕ) → IsSearch cs e n target steps rank next → Marks cs e n target steps number rank →
@@ -67,46 +69,59 @@ pub marked_search : (cs : List Constraint) (e : ℕ → ℕ → ℤ) (n target s
 marked_search cs e n target steps number rank next rank' next' was marks rank_at next_at rank_else next_else = record { start = start; onward = onward; ranks = ranks; counted = counted }
   where
     at_least : (x : ℕ) → 0 < rank x → 0 < rank' x
-    at_least x on = elim (eqb_tells x (constraint_at cs number).right)
-        [ inl h ↦ absurd (omega (arith, on, marks.fresh, ap rank h.1))
-        | inr h ↦ omega (arith, on, rank_else x h.1) ]
+    at_least x on = elim (eqb_tells x (constraint_at cs number).right) [
+      | inl h ↦ absurd (omega (arith, on, marks.fresh, ap rank h.1))
+      | inr h ↦ omega (arith, on, rank_else x h.1)
+    ]
+
     same : (x : ℕ) → 0 < rank x → rank' x ≡ rank x
-    same x on = elim (eqb_tells x (constraint_at cs number).right)
-        [ inl h ↦ absurd (omega (arith, on, marks.fresh, ap rank h.1))
-        | inr h ↦ rank_else x h.1 ]
+    same x on = elim (eqb_tells x (constraint_at cs number).right) [
+      | inl h ↦ absurd (omega (arith, on, marks.fresh, ap rank h.1))
+      | inr h ↦ rank_else x h.1
+    ]
+
     start : 0 < rank' target
     start = at_least target was.start
+
     ranks : (x : ℕ) → x < n → rank' x ≤ steps + 1
-    ranks x x_in = elim (eqb_tells x (constraint_at cs number).right)
-        [ inl h ↦ omega (arith, rank_at, ap rank' h.1)
-        | inr h ↦ omega (arith, rank_else x h.1, was.ranks x x_in) ]
+    ranks x x_in = elim (eqb_tells x (constraint_at cs number).right) [
+      | inl h ↦ omega (arith, rank_at, ap rank' h.1)
+      | inr h ↦ omega (arith, rank_else x h.1, was.ranks x x_in)
+    ]
+
     counted : steps + 1 ≡ count n (λ x. nat_lt 0 (rank' x))
     counted =
         let off : nat_lt 0 (rank (constraint_at cs number).right) ≡ false = rw marks.fresh refl in
         let on : nat_lt 0 (rank' (constraint_at cs number).right) ≡ true = rw rank_at (grind (arith, nat_tests)) in
         let more : count n (λ x. nat_lt 0 (rank' x)) ≡ count n (λ x. nat_lt 0 (rank x)) + 1 =
-            count_added n (λ x. nat_lt 0 (rank x)) (λ x. nat_lt 0 (rank' x)) (constraint_at cs number).right marks.right_in off on (λ x x_in h. ap (nat_lt 0) (rank_else x h)) in
+        count_added n (λ x. nat_lt 0 (rank x)) (λ x. nat_lt 0 (rank' x)) (constraint_at cs number).right marks.right_in off on (λ x x_in h. ap (nat_lt 0) (rank_else x h)) in
         omega (arith, more, was.counted)
+
     onward_new : (x : ℕ) → x ≡ (constraint_at cs number).right → next' x ≡ number → Onward cs e n target rank' (next' x) x
-    onward_new x here going = rw going (record
-        { number_in = marks.number_in
-        ; right_is = sym here
-        ; left_in = marks.left_in
-        ; tight = marks.tight
-        ; marked = at_least (constraint_at cs number).left marks.marked
-        ; before = omega (arith, same (constraint_at cs number).left marks.marked, was.ranks (constraint_at cs number).left marks.left_in, rank_at, ap rank' here) })
+    onward_new x here going = rw going (record {
+      number_in = marks.number_in;
+      right_is = sym here;
+      left_in = marks.left_in;
+      tight = marks.tight;
+      marked = at_least (constraint_at cs number).left marks.marked;
+      before = omega (arith, same (constraint_at cs number).left marks.marked, was.ranks (constraint_at cs number).left marks.left_in, rank_at, ap rank' here);
+    })
+
     onward_old : (x : ℕ) → next' x ≡ next x → rank' x ≡ rank x → Onward cs e n target rank (next x) x → Onward cs e n target rank' (next' x) x
-    onward_old x going ranked old = rw going (record
-        { number_in = old.number_in
-        ; right_is = old.right_is
-        ; left_in = old.left_in
-        ; tight = old.tight
-        ; marked = at_least (constraint_at cs (next x)).left old.marked
-        ; before = omega (arith, same (constraint_at cs (next x)).left old.marked, ranked, old.before) })
+    onward_old x going ranked old = rw going (record {
+      number_in = old.number_in;
+      right_is = old.right_is;
+      left_in = old.left_in;
+      tight = old.tight;
+      marked = at_least (constraint_at cs (next x)).left old.marked;
+      before = omega (arith, same (constraint_at cs (next x)).left old.marked, ranked, old.before);
+    })
+
     onward : (x : ℕ) → x < n → 0 < rank' x → x ≢ target → Onward cs e n target rank' (next' x) x
-    onward x x_in on other = elim (eqb_tells x (constraint_at cs number).right)
-        [ inl h ↦ onward_new x h.1 (ap next' h.1 ∙ next_at)
-        | inr h ↦ onward_old x (next_else x h.1) (rank_else x h.1) (was.onward x x_in (omega (arith, on, rank_else x h.1)) other) ]
+    onward x x_in on other = elim (eqb_tells x (constraint_at cs number).right) [
+      | inl h ↦ onward_new x h.1 (ap next' h.1 ∙ next_at)
+      | inr h ↦ onward_old x (next_else x h.1) (rank_else x h.1) (was.onward x x_in (omega (arith, on, rank_else x h.1)) other)
+    ]
 
 -- a search in which nothing is left to mark has reached each node with a path to the target
 pub reached : (cs : List Constraint) (n : ℕ) (most : ℤ) (e : ℕ → ℕ → ℤ) (target : ℕ) (rank : ℕ → ℕ) → target < n → IsClosure cs n most e → 0 < rank target →
@@ -151,13 +166,13 @@ pass_marks all e n target tried k steps con rank next rank' next' was few k_in t
     let size : length cs ≡ tried = omega (arith, length-take tried all, tried_in) in
     let there : IsInRange n con = subst (λ (c : Constraint). IsInRange n c) (sym con_is) (range k (omega (arith, k_in, tried_in))) in
     let P : Constraint → Type 0 = λ c. IsInRange n c → IsTight e target c → 0 < get_or rank c.left 0 → get_or rank c.right 0 ≡ 0 → rank' ≡ set rank c.right (steps + 1) → next' ≡ set next c.right k → c ≡ constraint_at cs k →
-        IsSearch cs e n target (steps + 1) (λ x. get_or rank' x 0) (λ x. get_or next' x 0) in
+    IsSearch cs e n target (steps + 1) (λ x. get_or rank' x 0) (λ x. get_or next' x 0) in
     let at_own : P (constraint_at cs k) = λ inside is_tight is_marked is_fresh rank_to next_to refl_is. marked_search cs e n target steps k (λ x. get_or rank x 0) (λ x. get_or next x 0) (λ x. get_or rank' x 0) (λ x. get_or next' x 0) was
-        (record { number_in = omega (arith, size, k_in); left_in = inside.left_in; right_in = inside.right_in; tight = is_tight; marked = is_marked; fresh = is_fresh })
-        (ap (λ (m : List ℕ). get_or m (constraint_at cs k).right 0) rank_to ∙ read_same rank (constraint_at cs k).right (steps + 1) (omega (arith, rank_size, few, inside.right_in)))
-        (ap (λ (m : List ℕ). get_or m (constraint_at cs k).right 0) next_to ∙ read_same next (constraint_at cs k).right k (omega (arith, next_size, few, inside.right_in)))
-        (λ x other. ap (λ (m : List ℕ). get_or m x 0) rank_to ∙ read_other rank (constraint_at cs k).right (steps + 1) x other)
-        (λ x other. ap (λ (m : List ℕ). get_or m x 0) next_to ∙ read_other next (constraint_at cs k).right k x other) in
+    (record { number_in = omega (arith, size, k_in); left_in = inside.left_in; right_in = inside.right_in; tight = is_tight; marked = is_marked; fresh = is_fresh })
+    (ap (λ (m : List ℕ). get_or m (constraint_at cs k).right 0) rank_to ∙ read_same rank (constraint_at cs k).right (steps + 1) (omega (arith, rank_size, few, inside.right_in)))
+    (ap (λ (m : List ℕ). get_or m (constraint_at cs k).right 0) next_to ∙ read_same next (constraint_at cs k).right k (omega (arith, next_size, few, inside.right_in)))
+    (λ x other. ap (λ (m : List ℕ). get_or m x 0) rank_to ∙ read_other rank (constraint_at cs k).right (steps + 1) x other)
+    (λ x other. ap (λ (m : List ℕ). get_or m x 0) next_to ∙ read_other next (constraint_at cs k).right k x other) in
     subst P (sym same) at_own there tight marked fresh rank_is next_is same
 
 -- 1 where a rank says that a node is not marked
@@ -173,16 +188,17 @@ pub pass_ends : (all : List Constraint) (n : ℕ) (entries : List ℤ) (target f
 pass_ends all n entries target from tried steps steps' rank next rank' next' t_in f_in tried_in is near found more done off =
     let few : steps' ≤ n = few_marked (take tried all) (cell entries) n target steps' (λ x. get_or rank' x 0) (λ x. get_or next' x 0) found in
     let was : unmarked (get_or rank from 0) ≡ 1 = rw off refl in
-    elim (eqb_tells steps' steps)
-    [ inl h ↦
-        let size : length (take tried all) ≡ tried = omega (arith, length-take tried all, tried_in) in
-        let all_done : (k : ℕ) → k < length (take tried all) → IsDoneAt far (cell entries) target (λ x. get_or rank' x 0) (constraint_at (take tried all) k) = λ k k_in.
-            let low : k < tried = omega (arith, k_in, size) in
-            subst (λ (c : Constraint). IsDoneAt far (cell entries) target (λ x. get_or rank' x 0) c) (sym (constraint_taken all tried k low)) (done h.1 k low) in
-        let way : (ks : List ℕ) × IsPath (take tried all) from ks target (cell entries target from) = is.paths target from t_in f_in near in
-        let on : 0 < get_or rank' from 0 = reached (take tried all) n far (cell entries) target (λ x. get_or rank' x 0) t_in is found.start all_done from f_in way.0 (cell entries target from) way.1 refl in
-        let now : unmarked (get_or rank' from 0) ≡ 0 = grind (arith, nat_tests, on) in
-        rw (was, now) (omega (arith, h.1))
-    | inr h ↦
-        let now : unmarked (get_or rank' from 0) ≤ 1 = grind (arith, nat_tests) in
-        rw was (omega (arith, now, few, more, h.1)) ]
+    elim (eqb_tells steps' steps) [
+      | inl h ↦
+          let size : length (take tried all) ≡ tried = omega (arith, length-take tried all, tried_in) in
+          let all_done : (k : ℕ) → k < length (take tried all) → IsDoneAt far (cell entries) target (λ x. get_or rank' x 0) (constraint_at (take tried all) k) = λ k k_in.
+          let low : k < tried = omega (arith, k_in, size) in
+          subst (λ (c : Constraint). IsDoneAt far (cell entries) target (λ x. get_or rank' x 0) c) (sym (constraint_taken all tried k low)) (done h.1 k low) in
+          let way : (ks : List ℕ) × IsPath (take tried all) from ks target (cell entries target from) = is.paths target from t_in f_in near in
+          let on : 0 < get_or rank' from 0 = reached (take tried all) n far (cell entries) target (λ x. get_or rank' x 0) t_in is found.start all_done from f_in way.0 (cell entries target from) way.1 refl in
+          let now : unmarked (get_or rank' from 0) ≡ 0 = grind (arith, nat_tests, on) in
+          rw (was, now) (omega (arith, h.1))
+      | inr h ↦
+          let now : unmarked (get_or rank' from 0) ≤ 1 = grind (arith, nat_tests) in
+          rw was (omega (arith, now, few, more, h.1))
+    ]

@@ -19,16 +19,16 @@ pub record IsWay (all : List Constraint) (n failed : ℕ) (rank next : ℕ → �
   pub rest : total +ℤ arrived.entries (constraint_at all failed).right here ≡ (constraint_at all failed).bound +ℤ arrived.entries (constraint_at all failed).right (constraint_at all failed).left
 
 module _ (all : List Constraint) (n failed : ℕ) (rank next : ℕ → ℕ) (arrived : HasArrived all n failed rank next) (range : AreInRange n all) (failed_in : failed < length all) where
-
   -- at first it is the failed constraint
   pub way_first : (out : List ℕ) → length out ≡ 105 → IsWay all n failed rank next arrived (constraint_at all failed).left 1 (set out 0 failed)
-  way_first out size = record
-    { at_in = (range failed failed_in).left_in
-    ; marked = arrived.marked
-    ; room = omega arith
-    ; total = (constraint_at all failed).bound
-    ; path = subst (λ (ks : List ℕ). IsPath all (constraint_at all failed).right ks (constraint_at all failed).left (constraint_at all failed).bound) (sym (take-suc-set out 0 failed (omega (arith, size)))) (path_one all failed failed_in)
-    ; rest = refl }
+  way_first out size = record {
+    at_in = (range failed failed_in).left_in;
+    marked = arrived.marked;
+    room = omega arith;
+    total = (constraint_at all failed).bound;
+    path = subst (λ (ks : List ℕ). IsPath all (constraint_at all failed).right ks (constraint_at all failed).left (constraint_at all failed).bound) (sym (take-suc-set out 0 failed (omega (arith, size)))) (path_one all failed failed_in);
+    rest = refl;
+  }
 
   -- one constraint more
   pub way_step : (here len : ℕ) (out : List ℕ) → length out ≡ 105 → here ≢ (constraint_at all failed).right → IsWay all n failed rank next arrived here len out →
@@ -45,19 +45,24 @@ module _ (all : List Constraint) (n failed : ℕ) (rank next : ℕ → ℕ) (arr
       let left_in : (constraint_at all (next here)).left < n = subst (λ (c : Constraint). c.left < n) same go.left_in in
       let tight : IsTight arrived.entries (constraint_at all failed).right (constraint_at all (next here)) = subst (λ (c : Constraint). IsTight arrived.entries (constraint_at all failed).right c) same go.tight in
       let tight_at : arrived.entries (constraint_at all failed).right here ≡ (constraint_at all (next here)).bound +ℤ arrived.entries (constraint_at all failed).right (constraint_at all (next here)).left =
-          ap (arrived.entries (constraint_at all failed).right) (sym right_is) ∙ tight in
+      ap (arrived.entries (constraint_at all failed).right) (sym right_is) ∙ tight in
       let room : len < 105 = omega (arith, way.room, first_rank, arrived.few, falls, more) in
       let one : IsPath all here (next here ∷ []) (constraint_at all (next here)).left (constraint_at all (next here)).bound = subst (λ (x : ℕ). IsPath all x (next here ∷ []) (constraint_at all (next here)).left (constraint_at all (next here)).bound) right_is (path_one all (next here) number_in) in
       let longer : IsPath all (constraint_at all failed).right (take len out ++ next here ∷ []) (constraint_at all (next here)).left (way.total +ℤ (constraint_at all (next here)).bound) =
-          path_join all (constraint_at all failed).right here (constraint_at all (next here)).left (take len out) (next here ∷ []) way.total (constraint_at all (next here)).bound way.path one in
-      let written : take (suc len) (set out len (next here)) ≡ take len out ++ next here ∷ [] = take-suc-set out len (next here) (omega (arith, size, room)) in
-      (number_in, room, falls, record
-        { at_in = left_in
-        ; marked = more
-        ; room = omega (arith, way.room, falls)
-        ; total = way.total +ℤ (constraint_at all (next here)).bound
-        ; path = subst (λ (ks : List ℕ). IsPath all (constraint_at all failed).right ks (constraint_at all (next here)).left (way.total +ℤ (constraint_at all (next here)).bound)) (sym written) longer
-        ; rest = omega (arith, ints, way.rest, tight_at) })
+      path_join all (constraint_at all failed).right here (constraint_at all (next here)).left (take len out) (next here ∷ []) way.total (constraint_at all (next here)).bound way.path one in
+      let written : take (suc len) (set out len (next here)) ≡ take len out ++ next here ∷ [] = take-suc-set out len (next here) (omega (arith, size, room)) in (
+        number_in,
+        room,
+        falls,
+        record {
+          at_in = left_in;
+          marked = more;
+          room = omega (arith, way.room, falls);
+          total = way.total +ℤ (constraint_at all (next here)).bound;
+          path = subst (λ (ks : List ℕ). IsPath all (constraint_at all failed).right ks (constraint_at all (next here)).left (way.total +ℤ (constraint_at all (next here)).bound)) (sym written) longer;
+          rest = omega (arith, ints, way.rest, tight_at);
+        },
+      )
 
   -- no more than all nodes are on it
   pub way_few : (here len : ℕ) (out : List ℕ) → IsWay all n failed rank next arrived here len out → len ≤ 105
@@ -70,7 +75,7 @@ module _ (all : List Constraint) (n failed : ℕ) (rank next : ℕ → ℕ) (arr
   way_last here len out home way =
       let path : IsPath all (constraint_at all failed).right (take len out) (constraint_at all failed).right way.total = subst (λ (x : ℕ). IsPath all (constraint_at all failed).right (take len out) x way.total) home way.path in
       let rest : way.total +ℤ arrived.entries (constraint_at all failed).right (constraint_at all failed).right ≡ (constraint_at all failed).bound +ℤ arrived.entries (constraint_at all failed).right (constraint_at all failed).left =
-          subst (λ (x : ℕ). way.total +ℤ arrived.entries (constraint_at all failed).right x ≡ (constraint_at all failed).bound +ℤ arrived.entries (constraint_at all failed).right (constraint_at all failed).left) home way.rest in
+      subst (λ (x : ℕ). way.total +ℤ arrived.entries (constraint_at all failed).right x ≡ (constraint_at all failed).bound +ℤ arrived.entries (constraint_at all failed).right (constraint_at all failed).left) home way.rest in
       ((constraint_at all failed).right, way.total, path, omega (arith, ints, rest, arrived.diagonal, arrived.negative))
 
 -- a search that has reached the left node of the failed constraint has arrived
@@ -80,13 +85,14 @@ pub has_arrived : (all : List Constraint) (n failed steps : ℕ) (entries : List
     HasArrived all n failed (λ x. get_or rank' x 0) (λ x. get_or next' x 0)
 has_arrived all n failed steps entries con rank next rank' next' table con_is right_in found marked negative rank_is next_is =
     let few : steps ≤ n = few_marked (take failed all) (cell entries) n con.right steps (λ x. get_or rank x 0) (λ x. get_or next x 0) found in
-    let arrived : HasArrived all n failed (λ x. get_or rank x 0) (λ x. get_or next x 0) = record
-        { entries = cell entries
-        ; steps = steps
-        ; few = omega (arith, few, table.few)
-        ; found = subst (λ (c : Constraint). IsSearch (take failed all) (cell entries) n c.right steps (λ x. get_or rank x 0) (λ x. get_or next x 0)) con_is found
-        ; marked = subst (λ (c : Constraint). 0 < get_or rank c.left 0) con_is marked
-        ; diagonal = subst (λ (c : Constraint). cell entries c.right c.right ≡ pos 0) con_is (table.closed.diagonal con.right right_in)
-        ; negative = negative } in
+    let arrived : HasArrived all n failed (λ x. get_or rank x 0) (λ x. get_or next x 0) = record {
+      entries = cell entries;
+      steps = steps;
+      few = omega (arith, few, table.few);
+      found = subst (λ (c : Constraint). IsSearch (take failed all) (cell entries) n c.right steps (λ x. get_or rank x 0) (λ x. get_or next x 0)) con_is found;
+      marked = subst (λ (c : Constraint). 0 < get_or rank c.left 0) con_is marked;
+      diagonal = subst (λ (c : Constraint). cell entries c.right c.right ≡ pos 0) con_is (table.closed.diagonal con.right right_in);
+      negative = negative;
+    } in
     subst (λ (r : List ℕ). HasArrived all n failed (λ x. get_or r x 0) (λ x. get_or next' x 0)) (sym rank_is)
-      (subst (λ (m : List ℕ). HasArrived all n failed (λ x. get_or rank x 0) (λ x. get_or m x 0)) (sym next_is) arrived)
+    (subst (λ (m : List ℕ). HasArrived all n failed (λ x. get_or rank x 0) (λ x. get_or m x 0)) (sym next_is) arrived)

@@ -26,4 +26,3 @@ pub record Closed (n c : ℕ) (far : ℤ) (e : ℕ → ℕ → ℤ) : Type 0 whe
   pub diagonal : (i : ℕ) → i < n → e i i ≡ pos 0
   pub joined : (i k j : ℕ) → i < n → k < n → j < n → e i k <ℤ far → e k j <ℤ far → e i j ≤ℤ (e i k +ℤ e k j)
   pub simple : (i j : ℕ) → i < n → j < n → e i j <ℤ far → Simple n c far e i j
-

@@ -23,9 +23,6 @@ use std::marker::Model;
 /// The most nodes that a table has room for.
 pub const NODES: usize = 105;
 
-/// Below this in size is each bound.
-pub const BOUND: i64 = 281474976710656;
-
 /// No bound: above each sum of bounds.
 pub(crate) const FAR: i64 = 1152921504606846976;
 

@@ -9,3 +9,6 @@ mod search;
 pub use closure::Closure;
 pub use constraint::{Constraint, Constraints, Stored};
 pub use differences::{Cycle, Differences};
+
+#[cfg(test)]
+mod tests;

@@ -36,7 +36,16 @@ fn is_tight(entries: &[i64], nodes: usize, target: usize, con: &Constraint) -> b
 }
 
 // Marks the right node of constraint `number`, where it is tight, leads to a marked node and that one is not marked.
-fn mark(rank: &mut [usize], next: &mut [u64], entries: &[i64], nodes: usize, target: usize, con: &Constraint, number: usize, steps: usize) -> bool
+fn mark(
+    rank: &mut [usize],
+    next: &mut [u64],
+    entries: &[i64],
+    nodes: usize,
+    target: usize,
+    con: &Constraint,
+    number: usize,
+    steps: usize,
+) -> bool
     requires rank_size { length rank.old ≡ 105 }
     requires next_size { length next.old ≡ 105 }
     requires table { IsTable nodes entries.now }
@@ -68,7 +77,16 @@ fn mark(rank: &mut [usize], next: &mut [u64], entries: &[i64], nodes: usize, tar
 
 // Tries each of the first constraints once, and answers how many nodes are marked then.
 #[allow(clippy::too_many_arguments)]
-fn pass<C: Constraints>(rank: &mut [usize], next: &mut [u64], entries: &[i64], nodes: usize, target: usize, constraints: &C, tried: usize, steps: usize) -> usize
+fn pass<C: Constraints>(
+    rank: &mut [usize],
+    next: &mut [u64],
+    entries: &[i64],
+    nodes: usize,
+    target: usize,
+    constraints: &C,
+    tried: usize,
+    steps: usize,
+) -> usize
     requires rank_size { length rank.old ≡ 105 }
     requires next_size { length next.old ≡ 105 }
     requires table { IsTable nodes entries.now }
@@ -108,7 +126,16 @@ fn begin(rank: &mut [usize], target: usize)
 
 // Marks nodes backwards from the target, until `from` is marked, which has a path by the first constraints.
 #[allow(clippy::too_many_arguments)]
-fn search<C: Constraints>(rank: &mut [usize], next: &mut [u64], entries: &[i64], nodes: usize, target: usize, from: usize, constraints: &C, tried: usize)
+fn search<C: Constraints>(
+    rank: &mut [usize],
+    next: &mut [u64],
+    entries: &[i64],
+    nodes: usize,
+    target: usize,
+    from: usize,
+    constraints: &C,
+    tried: usize,
+)
     requires rank_size { length rank.old ≡ 105 }
     requires next_size { length next.old ≡ 105 }
     requires table { IsTable nodes entries.now }
@@ -126,12 +153,28 @@ fn search<C: Constraints>(rank: &mut [usize], next: &mut [u64], entries: &[i64],
     begin(rank, target);
     let mut steps = 1;
     while rank[from] == 0 {
-        steps = pass(rank, next, entries, nodes, target, constraints, tried, steps);
+        steps = pass(
+            rank,
+            next,
+            entries,
+            nodes,
+            target,
+            constraints,
+            tried,
+            steps,
+        );
     }
 }
 
 // Writes the cycle that constraint `failed` makes with the path that the search has found, and answers its length.
-fn write_cycle<C: Constraints>(out: &mut [u64], rank: &[usize], next: &[u64], nodes: usize, constraints: &C, failed: usize) -> usize
+fn write_cycle<C: Constraints>(
+    out: &mut [u64],
+    rank: &[usize],
+    next: &[u64],
+    nodes: usize,
+    constraints: &C,
+    failed: usize,
+) -> usize
     requires out_size { length out.old ≡ 105 }
     requires rank_size { length rank.now ≡ 105 }
     requires next_size { length next.now ≡ 105 }
@@ -200,8 +243,24 @@ impl CycleFinder {
     {
         let con = constraints.get(failed);
         let nodes = closure.nodes();
-        search(&mut self.rank, &mut self.next, closure.entries(), nodes, con.right, con.left, constraints, failed);
-        self.length = write_cycle(&mut self.cycle, &self.rank, &self.next, nodes, constraints, failed);
+        search(
+            &mut self.rank,
+            &mut self.next,
+            closure.entries(),
+            nodes,
+            con.right,
+            con.left,
+            constraints,
+            failed,
+        );
+        self.length = write_cycle(
+            &mut self.cycle,
+            &self.rank,
+            &self.next,
+            nodes,
+            constraints,
+            failed,
+        );
     }
 
     // The cycle that was found last.

@@ -5,6 +5,7 @@ use Rattle.diff_core.proofs.Rows.{RowDone}
 use Rattle.diff_core.proofs.closure.lower_row.Given as goal
 
 abbrev pub invariant-loop-j : goal.invariant-loop-j
-invariant-loop-j l = record
-  { first_is : l.first ≡ cell l.fn.entries l.i l.con.left +ℤ l.con.bound
-  ; done : RowDone l.fn.entries l.entries l.nodes l.i l.con.right l.j (cell l.fn.entries l.i l.con.left +ℤ l.con.bound) }
+invariant-loop-j l = record {
+  first_is : l.first ≡ cell l.fn.entries l.i l.con.left +ℤ l.con.bound;
+  done : RowDone l.fn.entries l.entries l.nodes l.i l.con.right l.j (cell l.fn.entries l.i l.con.left +ℤ l.con.bound);
+}

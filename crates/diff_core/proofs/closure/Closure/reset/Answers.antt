@@ -9,12 +9,12 @@ use Rattle.diff_core.proofs.closure.Closure.reset.Goals as goal
 pub invariant_of-self : goal.invariant_of-self
 invariant_of-self c =
     let same : take c.self.inside.entries.len (c.clear.new.entries ++ drop (length c.clear.new.entries) c.self.inside.entries.items) ≡ c.clear.new.entries =
-        written_back c.clear.new.entries c.self.inside.entries.items c.self.inside.entries.len (omega arith) (omega arith) in
+    written_back c.clear.new.entries c.self.inside.entries.items c.self.inside.entries.len (omega arith) (omega arith) in
     subst (λ (m : List ℤ). IsTable c.args.nodes m) (sym same)
-      (record { few = c.requires; size = omega arith; closed = fresh_closed c.args.nodes 281474976710656 far (cell c.clear.new.entries) (omega (arith, ints)) c.clear.ensures })
+    (record { few = c.requires; size = omega arith; closed = fresh_closed c.args.nodes 281474976710656 far (cell c.clear.new.entries) (omega (arith, ints)) c.clear.ensures })
 
 pub returns-clause-closure : goal.returns-clause-closure
 returns-clause-closure c =
     let same : take c.self.inside.entries.len (c.clear.new.entries ++ drop (length c.clear.new.entries) c.self.inside.entries.items) ≡ c.clear.new.entries =
-        written_back c.clear.new.entries c.self.inside.entries.items c.self.inside.entries.len (omega arith) (omega arith) in
+    written_back c.clear.new.entries c.self.inside.entries.items c.self.inside.entries.len (omega arith) (omega arith) in
     subst (λ (m : List ℤ). IsClosure [] c.args.nodes far (cell m)) (sym same) (fresh_closure c.args.nodes far (cell c.clear.new.entries) (omega (arith, ints)) c.clear.ensures)

@@ -11,7 +11,8 @@ loop-k-preserved g c =
     let k_in : c.loop-k.k < length all = omega (arith, c.loop-k-test.true, c.count-count.ensures) in
     let more : take (c.loop-k.k + 1) all ≡ take c.loop-k.k all ++ constraint_at all c.loop-k.k ∷ [] = take_more all c.loop-k.k (record { left = 0; right = 0; bound = pos 0 }) k_in in
     let taken : IsClosureOf (take c.loop-k.k all ++ c.get-con.result ∷ []) c.take.new.self = c.take.ensures.taken c.if-not-take.false (take c.loop-k.k all) c.loop-k.invariant.closure in
-    record
-    { nodes = c.take.ensures.nodes ∙ c.loop-k.invariant.nodes
-    ; closure = subst (λ (cs : List Constraint). IsClosureOf cs c.take.new.self) (sym more)
-        (subst (λ (x : Constraint). IsClosureOf (take c.loop-k.k all ++ x ∷ []) c.take.new.self) c.get-con.ensures taken) }
+    record {
+      nodes = c.take.ensures.nodes ∙ c.loop-k.invariant.nodes;
+      closure = subst (λ (cs : List Constraint). IsClosureOf cs c.take.new.self) (sym more)
+          (subst (λ (x : Constraint). IsClosureOf (take c.loop-k.k all ++ x ∷ []) c.take.new.self) c.get-con.ensures taken);
+    }
