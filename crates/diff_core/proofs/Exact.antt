@@ -1,16 +1,15 @@
 -- A closed table gives solutions: for any weights w of the nodes, the least of w x + e i x over the nodes x with a
 -- way to i, and of w i, satisfies all constraints. Weights that are 0 at one node and large elsewhere make an
 -- entry tight, and show that nothing is entailed where there is no entry.
-use Rattle.std.proofs.Common.{◌≡◌, ℕ, ◌<◌, ◌≤◌, ◌+◌, ◌*◌, Bool, true, false, cond, zero, suc, ℤ, pos, ◌+ℤ◌, ◌-ℤ◌, ◌≤ℤ◌, ◌<ℤ◌, List, [], ◌∷◌, ◌++◌, length, refl, ap, arith, ◌⊎◌, inl, inr, eqb, ◌≢◌, subst, sym}
-use Rattle.std.proofs.Math.Nat.{mul-le-mul_left}
+use Rattle.std.proofs.Common.{◌≡◌, ℕ, ◌<◌, ◌*◌, true, false, cond, zero, suc, ℤ, pos, ◌+ℤ◌, ◌-ℤ◌, ◌≤ℤ◌, ◌<ℤ◌, List, [], ◌∷◌, ◌++◌, length, refl, arith, ◌⊎◌, inl, inr, eqb, subst, sym}
 use Rattle.std.proofs.lemmas.Int.{ints, by_lt_z}
-use Rattle.std.proofs.lemmas.Bool.{eqb-true, eq-eqb}
+use Rattle.std.proofs.lemmas.Bool.{eq-eqb}
 use Rattle.std.proofs.lemmas.Bool.Decides.{eqb_tells}
-use Rattle.diff_core.specs.Constraints.{constraint_at, IsPath, Fits, Solves, HasSolution, Entails, IsLeastSum}
+use Rattle.diff_core.specs.Constraints.{constraint_at, IsPath, Solves, HasSolution, Entails, IsLeastSum}
 use Rattle.diff_core.specs.Closure.{IsClosure}
 use Rattle.diff_core.specs.declared.constraint.Constraint.{Constraint}
 use Rattle.diff_core.specs.Closed.{Closed}
-use Rattle.diff_core.proofs.Closed.{Covers, Small, near_small, near_joined}
+use Rattle.diff_core.proofs.Closed.{Small, near_small}
 use Rattle.diff_core.proofs.Grown.{closure_covers}
 use Rattle.diff_core.proofs.Paths.{path_join, path_one, path_holds, path_ends}
 

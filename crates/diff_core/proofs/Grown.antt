@@ -1,16 +1,16 @@
 -- The closure of a list that grows by one constraint, of the empty list, and what a negative way back refutes.
-use Rattle.std.proofs.Common.{◌≡◌, ℕ, ◌<◌, ◌≤◌, ◌+◌, ◌*◌, Bool, true, false, ℤ, pos, ◌+ℤ◌, ◌-ℤ◌, ◌≤ℤ◌, ◌<ℤ◌, List, [], ◌∷◌, ◌++◌, length, length-append, refl, ap, arith, ◌⊎◌, inl, inr, eqb, ◌≢◌, subst, sym}
+use Rattle.std.proofs.Common.{◌≡◌, ℕ, ◌<◌, ◌≤◌, ◌+◌, ◌*◌, ℤ, pos, ◌+ℤ◌, ◌-ℤ◌, ◌≤ℤ◌, ◌<ℤ◌, List, [], ◌∷◌, ◌++◌, length, length-append, refl, arith, ◌⊎◌, inl, inr, eqb, subst, sym}
 use Rattle.std.proofs.Math.Nat.{mul-le-mul_left}
 use Rattle.std.proofs.lemmas.Int.{ints}
 use Rattle.std.proofs.lemmas.Bool.{eqb-true, eq-eqb}
 use Rattle.std.proofs.lemmas.Bool.Decides.{eqb_tells}
-use Rattle.diff_core.specs.Constraints.{constraint_at, IsPath, Fits, Solves, HasSolution}
+use Rattle.diff_core.specs.Constraints.{constraint_at, IsPath, Fits, HasSolution}
 use Rattle.diff_core.specs.Closure.{IsClosure}
 use Rattle.diff_core.specs.Table.{IsFresh}
 use Rattle.diff_core.specs.declared.constraint.Constraint.{Constraint}
-use Rattle.diff_core.specs.Closed.{Closed, Simple, Between, count}
+use Rattle.diff_core.specs.Closed.{Closed, Simple, count}
 use Rattle.diff_core.proofs.Closed.{Covers, covered_path, count_some, near_joined}
-use Rattle.diff_core.specs.Relaxes.{Kept, Led, Relaxes, Step}
+use Rattle.diff_core.specs.Relaxes.{Relaxes, Step}
 use Rattle.diff_core.proofs.Relaxed.{lower, past, relaxed_closed}
 use Rattle.diff_core.proofs.Paths.{constraint_kept, constraint_next, path_more, path_one, path_join, path_holds}
 

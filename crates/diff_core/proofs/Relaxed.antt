@@ -1,14 +1,10 @@
 -- One constraint `a - b <= d` more: each entry stays, or falls to the way over that constraint. A closed table
 -- stays closed, unless the way back from a to b makes a negative cycle with it.
-use Rattle.std.proofs.Common.{◌≡◌, ℕ, ◌<◌, ◌≤◌, ◌+◌, ◌*◌, Bool, true, false, cond, ℤ, pos, negsuc, neg_ℤ, ◌+ℤ◌, ◌-ℤ◌, ◌≤ℤ◌, ◌<ℤ◌, List, [], ◌∷◌, ◌++◌, length, length-append, refl, arith, ◌⊎◌, inl, inr}
+use Rattle.std.proofs.Common.{◌≡◌, ℕ, ◌<◌, ◌+◌, Bool, true, false, cond, ℤ, pos, ◌+ℤ◌, ◌≤ℤ◌, ◌<ℤ◌, refl, arith, inl, inr}
 use Rattle.std.proofs.lemmas.Int.{ints}
-use Rattle.diff_core.specs.Constraints.{constraint_at, IsPath, Fits}
-use Rattle.diff_core.specs.Closure.{IsClosure}
-use Rattle.diff_core.specs.declared.constraint.Constraint.{Constraint}
 use Rattle.diff_core.specs.Relaxes.{Kept, Led, Relaxes, Step}
 use Rattle.diff_core.specs.Closed.{count, Between, Simple, Closed}
-use Rattle.diff_core.proofs.Closed.{union, count_union, Small, near_small, near_joined, Covers, covered_path}
-use Rattle.diff_core.proofs.Paths.{constraint_kept, constraint_next, path_more, path_one, path_join}
+use Rattle.diff_core.proofs.Closed.{union, count_union, near_small, near_joined}
 
 module _ (n c : ℕ) (far : ℤ) (e f : ℕ → ℕ → ℤ) (a b : ℕ) (d : ℤ) (step : Step n c far e a b d) (relaxes : Relaxes n far e f a b d) where
   -- no entry grows

@@ -1,10 +1,9 @@
 -- Loops over a row, and over the rows, that lower entries.
-use Rattle.std.proofs.Common.{◌≡◌, ◌≢◌, ℕ, ◌<◌, ◌≤◌, ◌+◌, ◌*◌, ℤ, pos, ◌+ℤ◌, ◌-ℤ◌, ◌≤ℤ◌, ◌<ℤ◌, List, length, get_or, refl, arith, ◌⊎◌, inl, inr, subst, sym, ◌∙◌, below_more}
+use Rattle.std.proofs.Common.{◌≡◌, ◌≢◌, ℕ, ◌<◌, ◌≤◌, ◌+◌, ◌*◌, ℤ, pos, ◌+ℤ◌, ◌-ℤ◌, ◌≤ℤ◌, ◌<ℤ◌, List, get_or, arith, ◌⊎◌, inl, inr, subst, sym, ◌∙◌, below_more}
 use Rattle.std.proofs.lemmas.Int.{ints, by_lt_z}
-use Rattle.std.proofs.lemmas.Bool.Decides.{eqb_tells}
 use Rattle.diff_core.specs.Closed.{Closed}
 use Rattle.diff_core.specs.Table.{cell, far}
-use Rattle.diff_core.specs.Relaxes.{Lowers, Kept, Led, Relaxes, Step}
+use Rattle.diff_core.specs.Relaxes.{Lowers, Kept, Led, Step}
 use Rattle.diff_core.proofs.Closed.{near_small}
 
 -- the state of a row that is lowered up to entry j

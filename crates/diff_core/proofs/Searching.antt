@@ -1,16 +1,15 @@
 -- The search marks more nodes as long as something is left to mark, and then it has reached every node that has a
 -- path to the target.
-use Rattle.std.proofs.Common.{◌≡◌, ◌≢◌, ℕ, ◌<◌, ◌≤◌, ◌+◌, Bool, true, false, cond, zero, suc, ℤ, pos, ◌+ℤ◌, ◌-ℤ◌, ◌≤ℤ◌, ◌<ℤ◌, List, [], ◌∷◌, ◌++◌, length, get_or, set, take, refl, arith, ap, subst, sym, ◌∙◌, inl, inr, nat_lt, ◌==◌, ◌-◌, get_or-set_same, get_or-set_other, length-take, get_or-take}
+use Rattle.std.proofs.Common.{◌≡◌, ◌≢◌, ℕ, ◌<◌, ◌≤◌, ◌+◌, Bool, true, false, cond, zero, suc, ℤ, pos, ◌+ℤ◌, ◌-ℤ◌, ◌≤ℤ◌, ◌<ℤ◌, List, [], ◌∷◌, length, get_or, set, take, refl, arith, ap, subst, sym, ◌∙◌, inl, inr, nat_lt, ◌==◌, ◌-◌, get_or-set_same, get_or-set_other, length-take, get_or-take}
 use Rattle.std.proofs.lemmas.Int.{ints}
 use Rattle.std.proofs.lemmas.Bool.Decides.{eqb_tells, nat_tests}
 use Rattle.diff_core.specs.declared.constraint.Constraint.{Constraint}
-use Rattle.diff_core.specs.Constraints.{constraint_at, IsPath, Fits, IsInRange, AreInRange}
+use Rattle.diff_core.specs.Constraints.{constraint_at, IsPath, IsInRange, AreInRange}
 use Rattle.diff_core.specs.Closed.{count}
 use Rattle.diff_core.specs.Closure.{IsClosure}
 use Rattle.diff_core.specs.Table.{cell, far}
 use Rattle.diff_core.specs.Search.{IsTight, Onward, IsSearch, IsDoneAt}
 use Rattle.diff_core.proofs.Closed.{count_le}
-use Rattle.diff_core.proofs.Paths.{constraint_kept}
 
 pub count_same : (n : ℕ) (s t : ℕ → Bool) → ((x : ℕ) → x < n → t x ≡ s x) → count n t ≡ count n s
 count_same zero s t same = refl

@@ -1,5 +1,5 @@
 -- The closure of a list of constraints, as a table.
-use Rattle.std.specs.Prelude.{◌≡◌, ℕ, ◌<◌, ◌+◌, ◌*◌, ℤ, pos, ◌-ℤ◌, ◌≤ℤ◌, ◌<ℤ◌, List, length, slice_index_or}
+use Rattle.std.specs.Prelude.{ℕ, ◌<◌, ℤ, ◌≤ℤ◌, ◌<ℤ◌, List}
 use Rattle.diff_core.specs.Constraints.{IsPath, Fits}
 use Rattle.diff_core.specs.declared.constraint.Constraint.{Constraint}
 

@@ -1,6 +1,5 @@
-use Rattle.std.proofs.Common.{rules, arith, ◌≡◌, ℕ, ◌<◌, ℤ, pos, ◌+ℤ◌, ◌≤ℤ◌, ◌<ℤ◌, length, get_or, set, refl, inl, inr, get_or-set_same}
-use Rattle.std.proofs.lemmas.Int.{ints, to_z-of_z}
-use Rattle.diff_core.specs.Table.{far}
+use Rattle.std.proofs.Common.{rules, arith, ◌<◌, pos, length, get_or, refl, inl, inr, get_or-set_same}
+use Rattle.std.proofs.lemmas.Int.{ints}
 use Rattle.diff_core.proofs.closure.lower.Goals as goal
 use mir.Val.{SFits}
 use mir.Syntax.{w64}

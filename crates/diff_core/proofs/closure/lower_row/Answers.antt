@@ -1,8 +1,7 @@
-use Rattle.std.proofs.Common.{◌≡◌, ℕ, ◌<◌, ◌+◌, ◌*◌, ℤ, pos, ◌+ℤ◌, arith, get_or, subst, rules}
-use Rattle.std.proofs.lemmas.Int.{ints}
+use Rattle.std.proofs.Common.{◌<◌, ℤ, ◌+ℤ◌, arith, subst}
 use Rattle.diff_core.specs.Table.{cell}
 use Rattle.diff_core.specs.Relaxes.{Lowers}
-use Rattle.diff_core.proofs.Rows.{RowDone, row_step}
+use Rattle.diff_core.proofs.Rows.{row_step}
 use Rattle.diff_core.proofs.closure.lower_row.Goals as goal
 
 pub loop-j-preserved : goal.loop-j-preserved

@@ -1,4 +1,4 @@
-use Rattle.std.proofs.Common.{◌≡◌, ◌≢◌, ℕ, ◌<◌, ◌≤◌, ◌+◌, ◌*◌, ℤ, pos, ◌+ℤ◌, ◌-ℤ◌, ◌≤ℤ◌, ◌<ℤ◌, arith, get_or, subst, rules, inl, inr, ◌⊎◌, List, sym}
+use Rattle.std.proofs.Common.{◌≡◌, ◌≢◌, ◌<◌, ◌+◌, ◌*◌, ℤ, pos, ◌≤ℤ◌, ◌<ℤ◌, arith, get_or, subst, rules, inl, inr, ◌⊎◌, List, sym}
 use Rattle.std.proofs.lemmas.Int.{ints}
 use Rattle.diff_core.specs.Table.{cell, far}
 use Rattle.diff_core.proofs.Rows.{RowsDone, rows_lowered, rows_passed, entry_at_least, entry_at_most}

@@ -1,4 +1,4 @@
-use Rattle.std.proofs.Common.{◌≡◌, ℕ, ◌<◌, ◌≤◌, ◌+◌, ℤ, ◌<ℤ◌, List, length, take, arith, slice_index, true, false, below_more, subst, sym, rules}
+use Rattle.std.proofs.Common.{◌≡◌, ℕ, ◌<◌, ◌≤◌, ◌+◌, ℤ, List, take, arith, slice_index, true, false, below_more, subst, sym, rules}
 use Rattle.diff_core.specs.declared.constraint.Constraint.{Constraint}
 use Rattle.diff_core.specs.Constraints.{constraint_at}
 use Rattle.diff_core.specs.Table.{cell, far}

@@ -1,6 +1,5 @@
-use Rattle.std.proofs.Common.{◌≡◌, ℕ, ◌<◌, ◌≤◌, List, length, take, arith, slice_index, rules}
-use Rattle.diff_core.specs.declared.constraint.Constraint.{Constraint}
-use Rattle.diff_core.specs.Table.{cell, far}
+use Rattle.std.proofs.Common.{take, arith, slice_index}
+use Rattle.diff_core.specs.Table.{cell}
 use Rattle.diff_core.proofs.Searching.{first_search, pass_ends}
 use Rattle.diff_core.proofs.search.search.Goals as goal
 

@@ -1,6 +1,6 @@
 -- The search goes on; each pass marks a node or reaches `from`.
-use Rattle.std.proofs.Common.{◌≡◌, ℕ, ◌+◌, ◌-◌, ◌*◌, length, take, slice_index}
-use Rattle.diff_core.specs.Table.{cell, far}
+use Rattle.std.proofs.Common.{◌≡◌, ◌+◌, ◌-◌, length, take, slice_index}
+use Rattle.diff_core.specs.Table.{cell}
 use Rattle.diff_core.specs.Search.{IsSearch}
 use Rattle.diff_core.proofs.Searching.{unmarked}
 use Rattle.diff_core.proofs.search.search.Given as goal

@@ -1,7 +1,6 @@
-use Rattle.std.proofs.Common.{◌≡◌, ◌≢◌, ℕ, ◌<◌, ◌≤◌, ◌+◌, suc, ℤ, List, length, set, take, arith, slice_index, subst, sym, ap, ◌∙◌, rules, add-one, length-set, get_or}
+use Rattle.std.proofs.Common.{◌≡◌, ◌≢◌, ℕ, ◌<◌, ◌+◌, suc, length, set, arith, slice_index, subst, sym, ap, ◌∙◌, rules, length-set}
 use Rattle.diff_core.specs.declared.constraint.Constraint.{Constraint}
-use Rattle.diff_core.specs.Constraints.{constraint_at, IsNegativeCycle}
-use Rattle.diff_core.specs.Search.{HasArrived}
+use Rattle.diff_core.specs.Constraints.{constraint_at}
 use Rattle.diff_core.proofs.Ways.{IsWay, way_first, way_step, way_few, way_last}
 use Rattle.diff_core.proofs.search.write_cycle.Goals as goal
 

@@ -1,5 +1,5 @@
 -- What is written leads to the node; ranks fall.
-use Rattle.std.proofs.Common.{◌≡◌, ℕ, ◌≤◌, length, slice_index}
+use Rattle.std.proofs.Common.{◌≡◌, length, slice_index}
 use Rattle.diff_core.specs.Search.{HasArrived}
 use Rattle.diff_core.proofs.Ways.{IsWay}
 use Rattle.diff_core.proofs.search.write_cycle.Given as goal

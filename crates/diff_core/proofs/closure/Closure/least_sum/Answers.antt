@@ -1,9 +1,8 @@
-use Rattle.std.proofs.Common.{◌≡◌, ℕ, ◌<◌, ℤ, pos, ◌-ℤ◌, ◌≤ℤ◌, ◌<ℤ◌, List, arith, rules, ap, subst, sym, ◌∙◌}
+use Rattle.std.proofs.Common.{◌≡◌, ℕ, ◌<◌, ℤ, ◌≤ℤ◌, List, arith, subst, sym}
 use Rattle.std.proofs.lemmas.Int.{ints, to_z-of_z}
-use Rattle.diff_core.specs.declared.constraint.Constraint.{Constraint}
 use Rattle.diff_core.specs.Constraints.{IsLeastSum}
 use Rattle.diff_core.specs.Closure.{IsClosure}
-use Rattle.diff_core.specs.Table.{Table, cell, far, IsClosureOf, IsTable}
+use Rattle.diff_core.specs.Table.{Table, cell, far, IsClosureOf}
 use Rattle.diff_core.proofs.Exact.{row_least_sum}
 use Rattle.diff_core.proofs.Rows.{entry_at_least}
 use Rattle.diff_core.proofs.Tables.{wide_enough}

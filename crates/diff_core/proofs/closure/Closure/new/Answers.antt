@@ -1,4 +1,4 @@
-use Rattle.std.proofs.Common.{◌≡◌, ℕ, ◌<◌, pos, arith, rules}
+use Rattle.std.proofs.Common.{arith}
 use Rattle.diff_core.specs.Table.{cell, far}
 use Rattle.diff_core.specs.Closed.{Closed}
 use Rattle.diff_core.proofs.Grown.{fresh_closed}

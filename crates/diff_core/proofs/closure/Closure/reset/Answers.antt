@@ -1,4 +1,4 @@
-use Rattle.std.proofs.Common.{◌≡◌, ℕ, ◌<◌, ℤ, pos, List, [], ◌++◌, length, take, drop, arith, rules, subst, sym}
+use Rattle.std.proofs.Common.{◌≡◌, ℤ, List, [], ◌++◌, length, take, drop, arith, subst, sym}
 use Rattle.std.proofs.lemmas.Int.{ints}
 use Rattle.diff_core.specs.Closure.{IsClosure}
 use Rattle.diff_core.specs.Table.{cell, far, IsTable}

@@ -1,5 +1,5 @@
-use Rattle.std.proofs.Common.{◌≡◌, ℕ, ◌<◌, ◌≤◌, ℤ, pos, ◌*◌, ◌+ℤ◌, ◌-ℤ◌, ◌≤ℤ◌, ◌<ℤ◌, List, [], ◌∷◌, ◌++◌, length, take, drop, arith, rules, ap, subst, sym, ◌∙◌, refl}
-use Rattle.std.proofs.lemmas.Int.{ints, to_z-of_z}
+use Rattle.std.proofs.Common.{◌≡◌, ℕ, ◌<◌, ℤ, pos, ◌*◌, ◌+ℤ◌, ◌-ℤ◌, ◌≤ℤ◌, ◌<ℤ◌, List, [], ◌∷◌, ◌++◌, length, take, drop, arith, rules, ap, subst, sym, ◌∙◌}
+use Rattle.std.proofs.lemmas.Int.{ints}
 use Rattle.diff_core.specs.declared.constraint.Constraint.{Constraint}
 use Rattle.diff_core.specs.Constraints.{HasSolution}
 use Rattle.diff_core.specs.Closure.{IsClosure}
@@ -10,7 +10,7 @@ use Rattle.diff_core.proofs.Relaxed.{relaxed_closed}
 use Rattle.diff_core.proofs.Rows.{entry_at_least}
 use Rattle.diff_core.proofs.Tables.{written_back, step_of, wide_enough}
 use Rattle.diff_core.proofs.closure.Closure.take.Goals as goal
-use mir.Val.{SFits, to_z, of_z}
+use mir.Val.{SFits}
 use mir.Syntax.{w64}
 
 -- the step that the contract's conditions allow, where the way back makes no negative cycle

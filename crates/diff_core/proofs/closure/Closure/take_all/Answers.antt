@@ -1,8 +1,8 @@
-use Rattle.std.proofs.Common.{◌≡◌, ℕ, ◌<◌, ◌+◌, ℤ, List, [], ◌∷◌, ◌++◌, length, get_or, take, arith, subst, sym, ap, ◌∙◌, true, pos}
+use Rattle.std.proofs.Common.{◌≡◌, ◌<◌, ◌+◌, List, [], ◌∷◌, ◌++◌, length, take, arith, subst, sym, ◌∙◌, pos}
 use Rattle.std.proofs.lemmas.List.{take_more}
 use Rattle.diff_core.specs.declared.constraint.Constraint.{Constraint}
 use Rattle.diff_core.specs.Constraints.{constraint_at}
-use Rattle.diff_core.specs.Table.{Table, IsClosureOf}
+use Rattle.diff_core.specs.Table.{IsClosureOf}
 use Rattle.diff_core.proofs.closure.Closure.take_all.Goals as goal
 
 pub loop-k-preserved : goal.loop-k-preserved

@@ -1,7 +1,7 @@
-use Rattle.std.proofs.Common.{◌≡◌, ℕ, List, length, take, arith, subst, sym, ap, ◌∙◌}
+use Rattle.std.proofs.Common.{◌≡◌, ℕ, List, take, subst, ap, ◌∙◌}
 use Rattle.std.proofs.Math.Seq.{take-length}
 use Rattle.diff_core.specs.declared.constraint.Constraint.{Constraint}
-use Rattle.diff_core.specs.Table.{Table, cell, far, IsClosureOf}
+use Rattle.diff_core.specs.Table.{cell, far, IsClosureOf}
 use Rattle.diff_core.proofs.Exact.{closure_solved}
 use Rattle.diff_core.proofs.Paths.{cycle_refutes}
 use Rattle.diff_core.proofs.differences.Differences.close.Goals as goal

@@ -1,4 +1,4 @@
-use Rattle.std.proofs.Common.{◌≡◌, ℕ, ℤ, subst, sym, ap}
+use Rattle.std.proofs.Common.{◌≡◌, ℤ, subst, sym, ap}
 use Rattle.std.proofs.lemmas.Int.{to_z-of_z}
 use Rattle.diff_core.specs.Constraints.{IsLeastSum}
 use Rattle.diff_core.specs.Closing.{Closing}

@@ -1,8 +1,7 @@
-use Rattle.std.proofs.Common.{◌≡◌, ℕ, ◌<◌, ◌≤◌, ◌+◌, ℤ, pos, ◌+ℤ◌, ◌<ℤ◌, List, ◌++◌, length, take, drop, slice_index, arith, subst, sym, ap, ◌∙◌}
+use Rattle.std.proofs.Common.{◌≡◌, ℕ, ◌<◌, ℤ, pos, ◌+ℤ◌, ◌<ℤ◌, List, ◌++◌, length, take, drop, arith, subst, sym, ◌∙◌}
 use Rattle.diff_core.specs.declared.constraint.Constraint.{Constraint}
 use Rattle.diff_core.specs.Constraints.{constraint_at, IsNegativeCycle}
-use Rattle.diff_core.specs.Table.{Table, cell, far, IsTable}
-use Rattle.diff_core.specs.Search.{IsSearch, HasArrived}
+use Rattle.diff_core.specs.Table.{cell, IsTable}
 use Rattle.diff_core.proofs.Ways.{has_arrived}
 use Rattle.diff_core.proofs.Tables.{written_back}
 use Rattle.diff_core.proofs.search.CycleFinder.find.Goals as goal
