@@ -2,8 +2,9 @@
 use Rattle.std.proofs.Common.{◌≡◌, ◌≢◌, ℕ, ◌<◌, ◌≤◌, ◌+◌, suc, ℤ, pos, ◌+ℤ◌, ◌<ℤ◌, List, [], ◌∷◌, ◌++◌, length, get_or, set, take, refl, arith, ap, subst, sym, ◌∙◌, length-take}
 use Rattle.std.proofs.Math.Seq.{take-suc-set}
 use Rattle.std.proofs.lemmas.Int.{ints}
+use Rattle.std.proofs.lemmas.List.Elements.{All-cons, All-nil, All-push}
 use Rattle.diff_core.specs.declared.constraint.Constraint.{Constraint}
-use Rattle.diff_core.specs.Constraints.{constraint_at, IsPath, AreInRange, IsNegativeCycle}
+use Rattle.diff_core.specs.Constraints.{constraint_at, IsPath, AreInRange, IsNegativeCycle, IsProper, AreProper}
 use Rattle.diff_core.specs.Search.{IsTight, Onward, IsSearch, HasArrived}
 use Rattle.diff_core.proofs.Paths.{path_join, path_one}
 use Rattle.diff_core.specs.Table.{cell, IsTable}
@@ -16,9 +17,16 @@ pub record IsWay (all : List Constraint) (n failed : ℕ) (rank next : ℕ → �
   pub room : len + rank here ≤ 1 + rank (constraint_at all failed).left
   pub total : ℤ
   pub path : IsPath all (constraint_at all failed).right (take len out) here total
+  pub proper : AreProper all (take len out)
   pub rest : total +ℤ arrived.entries (constraint_at all failed).right here ≡ (constraint_at all failed).bound +ℤ arrived.entries (constraint_at all failed).right (constraint_at all failed).left
 
 module _ (all : List Constraint) (n failed : ℕ) (rank next : ℕ → ℕ) (arrived : HasArrived all n failed rank next) (range : AreInRange n all) (failed_in : failed < length all) where
+  -- the failed constraint is no tautology, since the way back makes a negative cycle with it
+  proper_failed : IsProper (constraint_at all failed)
+  proper_failed same =
+      let around : arrived.entries (constraint_at all failed).right (constraint_at all failed).left ≡ pos 0 = subst (λ (x : ℕ). arrived.entries (constraint_at all failed).right x ≡ pos 0) (sym same) arrived.diagonal in
+      omega (arith, ints, around, arrived.negative)
+
   -- at first it is the failed constraint
   pub way_first : (out : List ℕ) → length out ≡ 105 → IsWay all n failed rank next arrived (constraint_at all failed).left 1 (set out 0 failed)
   way_first out size = record {
@@ -60,6 +68,7 @@ module _ (all : List Constraint) (n failed : ℕ) (rank next : ℕ → ℕ) (arr
           room = omega (arith, way.room, falls);
           total = way.total +ℤ (constraint_at all (next here)).bound;
           path = subst (λ (ks : List ℕ). IsPath all (constraint_at all failed).right ks (constraint_at all (next here)).left (way.total +ℤ (constraint_at all (next here)).bound)) (sym written) longer;
+          proper = subst (λ (ks : List ℕ). AreProper all ks) (sym written) (All-push (λ k. IsProper (constraint_at all k)) (take len out) (next here) way.proper (λ same_node. absurd (omega (arith, falls, ap rank (same_node ∙ right_is)))));
           rest = omega (arith, ints, way.rest, tight_at);
         },
       )

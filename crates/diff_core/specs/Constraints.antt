@@ -1,5 +1,5 @@
 -- Difference constraints over numbered nodes: their solutions, what they entail, and the paths that they form.
-use Rattle.std.specs.Prelude.{◌≡◌, ℕ, ◌<◌, ℤ, pos, ◌-ℤ◌, ◌≤ℤ◌, ◌<ℤ◌, List, [], ◌∷◌, length, Option, MatchOption, slice_index_or}
+use Rattle.std.specs.Prelude.{◌≡◌, ℕ, ◌<◌, ℤ, pos, ◌-ℤ◌, ◌≤ℤ◌, ◌<ℤ◌, List, [], ◌∷◌, length, Option, MatchOption, slice_index_or, All}
 use Rattle.diff_core.specs.declared.constraint.Constraint.{Constraint}
 
 -- constraint k of a list
@@ -53,3 +53,11 @@ pub record IsInRange (nodes : ℕ) (c : Constraint) : Type 0 where
 -- each constraint is
 abbrev pub AreInRange : ℕ → List Constraint → Type 0
 AreInRange nodes cs = (k : ℕ) → k < length cs → IsInRange nodes (constraint_at cs k)
+
+-- the constraint is no `x - x <= d` that every number satisfies
+abbrev pub IsProper : Constraint → Type 0
+IsProper c = c.left ≡ c.right → c.bound <ℤ pos 0
+
+-- so is each constraint with one of these numbers
+abbrev pub AreProper : List Constraint → List ℕ → Type 0
+AreProper cs ks = All (λ k. IsProper (constraint_at cs k)) ks

@@ -2,7 +2,7 @@
 
 ghost use Rattle.std.specs.Prelude.{◌≡◌, ◌<◌, ◌≤◌, List, ℤ, pos, ◌-ℤ◌, ◌≤ℤ◌, OnOk, OnErr};
 ghost use Rattle.diff_core.specs.declared.constraint.Constraint.{Constraint};
-ghost use Rattle.diff_core.specs.Constraints.{AreInRange, HasSolution, IsNegativeCycle, IsLeastBound, IsLeastSum};
+ghost use Rattle.diff_core.specs.Constraints.{AreInRange, HasSolution, IsNegativeCycle, AreProper, IsLeastBound, IsLeastSum};
 ghost use Rattle.diff_core.specs.Table.{IsClosureOf};
 
 use crate::closure::Closure;
@@ -48,6 +48,7 @@ impl Differences {
         ensures solved { OnOk result (HasSolution (C.list constraints.now)) }
         ensures refuted { OnErr result (HasSolution (C.list constraints.now) → ⊥) }
         ensures cycle { OnErr result (IsNegativeCycle (C.list constraints.now) self.new.cycle) }
+        ensures proper { OnErr result (AreProper (C.list constraints.now) self.new.cycle) }
     {
         self.closure.reset(nodes);
         let taken = self.closure.take_all(constraints);

@@ -9,7 +9,7 @@
 
 ghost use Rattle.std.specs.Prelude.{◌≡◌, ◌≢◌, ℕ, ◌+◌, ◌*◌, ◌<◌, ◌≤◌, ℤ, pos, ◌+ℤ◌, ◌-ℤ◌, ◌≤ℤ◌, ◌<ℤ◌, List, [], ◌∷◌, ◌++◌, length, take, IsTrue, false, slice_index, slice_set};
 ghost use Rattle.diff_core.specs.declared.constraint.Constraint.{Constraint};
-ghost use Rattle.diff_core.specs.Constraints.{constraint_at, IsInRange, AreInRange, IsNegativeCycle};
+ghost use Rattle.diff_core.specs.Constraints.{constraint_at, IsInRange, AreInRange, IsNegativeCycle, AreProper};
 ghost use Rattle.diff_core.specs.Closure.{IsClosure};
 ghost use Rattle.diff_core.specs.Table.{cell, far, IsTable, IsClosureOf, IsNear, ClosesNegative};
 ghost use Rattle.diff_core.specs.Search.{IsTight, IsSearch, IsDoneAt, HasArrived};
@@ -184,6 +184,7 @@ fn write_cycle<C: Constraints>(
     requires arrived { HasArrived (C.list constraints.now) nodes failed (slice_index rank.now) (slice_index next.now) }
     ensures few { result ≤ 105 }
     ensures cycle { IsNegativeCycle (C.list constraints.now) (take result out.new) }
+    ensures proper { AreProper (C.list constraints.now) (take result out.new) }
 {
     let con = constraints.get(failed);
     out[0] = failed as u64;
@@ -239,7 +240,8 @@ impl CycleFinder {
         requires closure { IsClosureOf (take failed (C.list constraints.now)) closure.now }
         requires near { IsNear closure.now (constraint_at (C.list constraints.now) failed) }
         requires negative { ClosesNegative closure.now (constraint_at (C.list constraints.now) failed) }
-        ensures { IsNegativeCycle (C.list constraints.now) self.new }
+        ensures cycle { IsNegativeCycle (C.list constraints.now) self.new }
+        ensures proper { AreProper (C.list constraints.now) self.new }
     {
         let con = constraints.get(failed);
         let nodes = closure.nodes();

@@ -82,3 +82,6 @@ pub returns-clause-cycle : goal.returns-clause-cycle
 returns-clause-cycle g c =
     way_last (g.C.Constraints.list c.args.constraints.now) c.args.nodes c.args.failed (slice_index c.args.rank.now) (slice_index c.args.next.now) c.requires.arrived c.requires.range c.requires.failed_in c.loop-node.node c.loop-node.length c.loop-node.out
     (c.loop-node-test.false ∙ ap (λ (x : Constraint). x.right) c.get-con.ensures) (c.loop-node.invariant.way c.requires.arrived)
+
+pub returns-clause-proper : goal.returns-clause-proper
+returns-clause-proper g c = (c.loop-node.invariant.way c.requires.arrived).proper

@@ -13,4 +13,4 @@ returns-then-taken-count-clause-solved g c =
     closure_solved all c.take_all-taken.new.self.nodes far (cell c.take_all-taken.new.self.entries) (subst (λ (cs : List Constraint). IsClosureOf cs c.take_all-taken.new.self) whole c.take_all-taken.ensures.taken)
 
 pub returns-clause-refuted : goal.returns-clause-refuted
-returns-clause-refuted g c = cycle_refutes (g.C.Constraints.list c.args.constraints.now) c.find.new.self c.find.ensures
+returns-clause-refuted g c = cycle_refutes (g.C.Constraints.list c.args.constraints.now) c.find.new.self c.find.ensures.cycle

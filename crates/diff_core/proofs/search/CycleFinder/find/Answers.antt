@@ -1,6 +1,6 @@
 use Rattle.std.proofs.Common.{◌≡◌, ℕ, ◌<◌, ℤ, pos, ◌+ℤ◌, ◌<ℤ◌, List, ◌++◌, length, take, drop, arith, subst, sym, ◌∙◌}
 use Rattle.diff_core.specs.declared.constraint.Constraint.{Constraint}
-use Rattle.diff_core.specs.Constraints.{constraint_at, IsNegativeCycle}
+use Rattle.diff_core.specs.Constraints.{constraint_at, IsNegativeCycle, AreProper}
 use Rattle.diff_core.specs.Table.{cell, IsTable}
 use Rattle.diff_core.proofs.Ways.{has_arrived}
 use Rattle.diff_core.proofs.Tables.{written_back}
@@ -22,8 +22,14 @@ write_cycle-self-inside-requires-clause-arrived g c =
     has_arrived all c.nodes-nodes.result c.args.failed c.search.ensures.search.0 c.entries.result.now c.get-con.result c.search.new.rank c.search.new.next c.deref.result.now c.deref-2.result.now
     table c.get-con.ensures right_in c.search.ensures.search.1 c.search.ensures.reached negative rank_is next_is
 
-pub returns : goal.returns
-returns g c =
+pub returns-clause-cycle : goal.returns-clause-cycle
+returns-clause-cycle g c =
     let same : take c.self.inside.cycle.len (c.write_cycle-self-inside.new.out ++ drop (length c.write_cycle-self-inside.new.out) c.self.inside.cycle.items) ≡ c.write_cycle-self-inside.new.out =
     written_back c.write_cycle-self-inside.new.out c.self.inside.cycle.items c.self.inside.cycle.len (omega arith) (omega arith) in
     subst (λ (out : List ℕ). IsNegativeCycle (g.C.Constraints.list c.args.constraints.now) (take c.write_cycle-self-inside.result out)) (sym same) c.write_cycle-self-inside.ensures.cycle
+
+pub returns-clause-proper : goal.returns-clause-proper
+returns-clause-proper g c =
+    let same : take c.self.inside.cycle.len (c.write_cycle-self-inside.new.out ++ drop (length c.write_cycle-self-inside.new.out) c.self.inside.cycle.items) ≡ c.write_cycle-self-inside.new.out =
+    written_back c.write_cycle-self-inside.new.out c.self.inside.cycle.items c.self.inside.cycle.len (omega arith) (omega arith) in
+    subst (λ (out : List ℕ). AreProper (g.C.Constraints.list c.args.constraints.now) (take c.write_cycle-self-inside.result out)) (sym same) c.write_cycle-self-inside.ensures.proper
