@@ -35,6 +35,7 @@ module _ (all : List Constraint) (n failed : ℕ) (rank next : ℕ → ℕ) (arr
     room = omega arith;
     total = (constraint_at all failed).bound;
     path = subst (λ (ks : List ℕ). IsPath all (constraint_at all failed).right ks (constraint_at all failed).left (constraint_at all failed).bound) (sym (take-suc-set out 0 failed (omega (arith, size)))) (path_one all failed failed_in);
+    proper = subst (λ (ks : List ℕ). AreProper all ks) (sym (take-suc-set out 0 failed (omega (arith, size)))) (All-cons (λ k. IsProper (constraint_at all k)) failed [] proper_failed (All-nil (λ k. IsProper (constraint_at all k))));
     rest = refl;
   }
 

@@ -1,6 +1,6 @@
 //! Closing a list of constraints: its closure, or a cycle with a negative sum.
 
-ghost use Rattle.std.specs.Prelude.{◌≡◌, ◌<◌, ◌≤◌, List, ℤ, pos, ◌-ℤ◌, ◌≤ℤ◌, OnOk, OnErr};
+ghost use Rattle.std.specs.Prelude.{◌≡◌, ◌<◌, ◌≤◌, List, [], ℤ, pos, ◌-ℤ◌, ◌≤ℤ◌, OnOk, OnErr, IfOk};
 ghost use Rattle.diff_core.specs.declared.constraint.Constraint.{Constraint};
 ghost use Rattle.diff_core.specs.Constraints.{AreInRange, HasSolution, IsNegativeCycle, AreProper, IsLeastBound, IsLeastSum};
 ghost use Rattle.diff_core.specs.Table.{IsClosureOf};
@@ -33,7 +33,9 @@ impl Model for Differences {
 
 impl Differences {
     /// Later calls take no memory.
-    pub fn new(alloc: Global) -> Result<Differences, Memory> {
+    pub fn new(alloc: Global) -> Result<Differences, Memory>
+        ensures { IfOk result (λ scratch. (scratch.table.nodes ≡ 0) × (scratch.cycle ≡ [])) }
+    {
         let closure = Closure::new(alloc)?;
         let finder = CycleFinder::new(alloc)?;
         Ok(Differences { closure, finder })

@@ -7,7 +7,7 @@
 //! one node to the next is then to a node that was marked before. The cost is at most the number of nodes times that
 //! of the constraints, and is paid only after a contradiction, in place of a second table that keeps paths with sums.
 
-ghost use Rattle.std.specs.Prelude.{◌≡◌, ◌≢◌, ℕ, ◌+◌, ◌*◌, ◌<◌, ◌≤◌, ℤ, pos, ◌+ℤ◌, ◌-ℤ◌, ◌≤ℤ◌, ◌<ℤ◌, List, [], ◌∷◌, ◌++◌, length, take, IsTrue, false, slice_index, slice_set};
+ghost use Rattle.std.specs.Prelude.{◌≡◌, ◌≢◌, ℕ, ◌+◌, ◌*◌, ◌<◌, ◌≤◌, ℤ, pos, ◌+ℤ◌, ◌-ℤ◌, ◌≤ℤ◌, ◌<ℤ◌, List, [], ◌∷◌, ◌++◌, length, take, IsTrue, IfOk, false, slice_index, slice_set};
 ghost use Rattle.diff_core.specs.declared.constraint.Constraint.{Constraint};
 ghost use Rattle.diff_core.specs.Constraints.{constraint_at, IsInRange, AreInRange, IsNegativeCycle, AreProper};
 ghost use Rattle.diff_core.specs.Closure.{IsClosure};
@@ -221,7 +221,9 @@ impl Model for CycleFinder {
 
 impl CycleFinder {
     // With no cycle yet. Later calls take no memory.
-    pub fn new(alloc: Global) -> Result<CycleFinder, Memory> {
+    pub fn new(alloc: Global) -> Result<CycleFinder, Memory>
+        ensures { IfOk result (λ cycle. cycle ≡ []) }
+    {
         let rank = vec![in alloc; 0; NODES]?;
         let next = vec![in alloc; 0; NODES]?;
         let cycle = vec![in alloc; 0; NODES]?;
