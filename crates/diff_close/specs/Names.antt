@@ -1,5 +1,5 @@
 -- The numbers of terms: zero is node 0, and the terms of a list are the nodes from 1 on, in its order.
-use Rattle.std.specs.Prelude.{ℕ, ◌+◌, ◌==◌, Bool, false, ◌&&◌, cond, pos, List, [], ◌∷◌}
+use Rattle.std.specs.Prelude.{ℕ, suc, ◌==◌, Bool, false, ◌&&◌, cond, pos, List, [], ◌∷◌}
 use Rattle.cub_proto.specs.declared.literal.Term.{Term}
 use Rattle.cub_proto.specs.declared.literal.Term.TheVariants.{Global, Cell}
 use Rattle.cub_proto.specs.declared.literal.ISide.{ISide}
@@ -18,12 +18,12 @@ term_eq (Cell a p) (Cell b q) = (a == b) && (p == q)
 -- the place of the term in the list, or its length
 abbrev pub index_of : List Term → Term → ℕ
 index_of [] t = 0
-index_of (x ∷ xs) t = cond (term_eq x t) 0 (index_of xs t + 1)
+index_of (x ∷ xs) t = cond (term_eq x t) 0 (suc (index_of xs t))
 
 -- the node of a side
 abbrev pub node_of : List Term → ISide → ℕ
 node_of names Zero = 0
-node_of names (At t) = index_of names t + 1
+node_of names (At t) = suc (index_of names t)
 
 -- the constraint of a literal; one that is no integer literal says nothing
 abbrev pub constraint_of : List Term → Lit → Constraint

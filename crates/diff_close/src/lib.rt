@@ -1,14 +1,14 @@
 //! The integer literals of a conjunction, closed.
 #![tactic(auto)]
 
-ghost use Rattle.std.specs.Prelude.{◌≡◌};
-ghost use Rattle.diff_close.specs.Names.{term_eq};
+// Terms as numbers.
+mod names;
 
-use cub_proto::Term;
+// Literals as constraints.
+mod literals;
 
-// Whether two terms are one.
-pub fn is_same(a: &Term, b: &Term) -> bool
-    ensures { result ≡ term_eq a.now b.now }
-{
-    *a == *b
-}
+// The scratch.
+mod scratch;
+
+pub use diff_core::Cycle;
+pub use scratch::DiffScratch;
