@@ -13,8 +13,8 @@ use Rattle.diff_core.specs.declared.constraint.Constraint.{Constraint}
 use Rattle.diff_core.specs.Constraints as core
 use Rattle.diff_core.proofs.Paths.{path_ends}
 use Rattle.diff_close.specs.Literals.{side_value, Holds, Solves, HasSolution, Entails, IsLeastBound, IsPath, IsNegativeCycle, IsLeastSum, IsAmong, MentionsOnly}
-use Rattle.diff_close.specs.Names.{term_eq, index_of, node_of, constraint_of}
-use Rattle.diff_close.proofs.Terms.{term_eq_true, term_eq_same, bool_cases, index_in, index_found, node_same, node_in, side_of, side_among, node_own}
+use Rattle.diff_close.specs.Names.{term_eq, side_eq, index_of, node_of, constraint_of}
+use Rattle.diff_close.proofs.Terms.{term_eq_true, term_eq_same, bool_cases, index_in, index_found, contains_index, node_same, node_in, side_of, side_among, node_own}
 use Rattle.diff_close.proofs.Translate.{constraint_is, length_is, get_is, got_in, difference_of}
 
 -- an integer literal, or one whose constraint says nothing
@@ -166,3 +166,35 @@ bound_right names lits named (v, solves) a t out other l entailed =
     let z : ℤ = (side_value v a -ℤ l) -ℤ pos 1 in
     let kept : (side_value (changed v t z) a -ℤ changed v t z t) ≤ℤ l = entailed (changed v t z) (λ k d k_in. changed_holds names v t z out (get_or lits k d) (named k d k_in) (solves k d k_in)) in
     omega (arith, ints, kept, changed_there v t z, changed_side v t z a other)
+
+pub side_eq_true : (a b : ISide) → side_eq a b ≡ true → a ≡ b
+side_eq_true Zero Zero e = refl
+side_eq_true Zero (At t) e = absurd (cc)
+side_eq_true (At s) Zero e = absurd (cc)
+side_eq_true (At s) (At t) e = ap At (term_eq_true s t e)
+
+pub side_eq_same : (a b : ISide) → a ≡ b → side_eq a b ≡ true
+side_eq_same Zero b e = subst (λ (x : ISide). side_eq Zero x ≡ true) e refl
+side_eq_same (At s) b e = subst (λ (x : ISide). side_eq (At s) x ≡ true) e (term_eq_same s)
+
+-- a side whose node is past all others is a term without a number
+pub past_all : (names : List Term) (a : ISide) → length names < node_of names a → (t : Term) × (a ≡ At t) × (Contains names t → ⊥)
+past_all names Zero h = absurd (omega (arith, h))
+past_all names (At t) h = (t, refl, λ there. omega (arith, h, index_found names t there))
+
+pub within_all : (names : List Term) (a : ISide) → node_of names a ≤ length names → IsAmong names a
+within_all names Zero h = tt
+within_all names (At t) h = contains_index names t (omega (arith, h))
+
+-- different sides, one of them without a number
+pub bound_past_left : (names : List Term) (lits : List Lit) → All (MentionsOnly names) lits → HasSolution lits → (a b : ISide) → side_eq a b ≡ false → length names < node_of names a → IsLeastBound lits a b None
+bound_past_left names lits named has a b other past =
+    let one : (t : Term) × (a ≡ At t) × (Contains names t → ⊥) = past_all names a past in
+    let apart : b ≡ At one.0 → ⊥ = λ e. let on : side_eq a b ≡ true = side_eq_same a b (one.1 ∙ sym e) in cc in
+    subst (λ (x : ISide). IsLeastBound lits x b None) (sym one.1) (bound_left names lits named has one.0 b one.2 apart)
+
+pub bound_past_right : (names : List Term) (lits : List Lit) → All (MentionsOnly names) lits → HasSolution lits → (a b : ISide) → side_eq a b ≡ false → length names < node_of names b → IsLeastBound lits a b None
+bound_past_right names lits named has a b other past =
+    let one : (t : Term) × (b ≡ At t) × (Contains names t → ⊥) = past_all names b past in
+    let apart : a ≡ At one.0 → ⊥ = λ e. let on : side_eq a b ≡ true = side_eq_same a b (e ∙ sym one.1) in cc in
+    subst (λ (x : ISide). IsLeastBound lits a x None) (sym one.1) (bound_right names lits named has a one.0 one.2 apart)

@@ -1,5 +1,5 @@
 -- The numbers of terms: zero is node 0, and the terms of a list are the nodes from 1 on, in its order.
-use Rattle.std.specs.Prelude.{ℕ, suc, ◌==◌, Bool, false, ◌&&◌, cond, pos, List, [], ◌∷◌}
+use Rattle.std.specs.Prelude.{ℕ, suc, ◌==◌, Bool, true, false, ◌&&◌, cond, pos, List, [], ◌∷◌}
 use Rattle.cub_proto.specs.declared.literal.Term.{Term}
 use Rattle.cub_proto.specs.declared.literal.Term.TheVariants.{Global, Cell}
 use Rattle.cub_proto.specs.declared.literal.ISide.{ISide}
@@ -14,6 +14,13 @@ term_eq (Global g) (Global h) = g == h
 term_eq (Global g) (Cell b q) = false
 term_eq (Cell a p) (Global h) = false
 term_eq (Cell a p) (Cell b q) = (a == b) && (p == q)
+
+-- whether two sides are one
+abbrev pub side_eq : ISide → ISide → Bool
+side_eq Zero Zero = true
+side_eq Zero (At t) = false
+side_eq (At s) Zero = false
+side_eq (At s) (At t) = term_eq s t
 
 -- the place of the term in the list, or its length
 abbrev pub index_of : List Term → Term → ℕ

@@ -18,3 +18,7 @@ pub record IsClosureOf (lits : List Lit) (s : Scratch) : Type 0 where
   pub named : All (MentionsOnly s.names) lits
   pub nodes : s.closing.table.nodes ≡ length s.names + 1
   pub table : IsTableOf (map (constraint_of s.names) lits) s.closing.table
+
+-- it has closed some literals
+abbrev pub IsClosed : Scratch → Type 0
+IsClosed s = (lits : List Lit) × IsClosureOf lits s

@@ -5,7 +5,7 @@
 ghost use Rattle.std.specs.Prelude.{◌≡◌, ◌<◌, ◌≤◌, suc, List, length, All, Contains, vec_len, vec_capacity};
 ghost use Rattle.cub_proto.specs.declared.literal.Term.{Term};
 ghost use Rattle.diff_close.specs.Literals.{IsAmong, MentionsOnly};
-ghost use Rattle.diff_close.specs.Names.{term_eq, index_of, node_of};
+ghost use Rattle.diff_close.specs.Names.{term_eq, side_eq, index_of, node_of};
 ghost use Rattle.diff_close.specs.AreNames.{AreNames};
 
 use cub_proto::{ISide, Lit, Term};
@@ -79,4 +79,11 @@ fn name_literal(names: &mut Vec<Term>, literal: &Lit)
         name_side(names, a);
         name_side(names, b);
     }
+}
+
+// Whether two sides are one.
+pub(crate) fn is_same_side(a: &ISide, b: &ISide) -> bool
+    ensures { result ≡ side_eq a.now b.now }
+{
+    *a == *b
 }

@@ -7,10 +7,10 @@
 ghost use Rattle.std.specs.Prelude.{◌≡◌, ◌≤◌, [], ◌++◌, List, All, ℤ, IfOk, OnOk, OnErr};
 ghost use Rattle.cub_proto.specs.declared.literal.Lit.{Lit};
 ghost use Rattle.diff_close.specs.Literals.{HasSolution, IsNegativeCycle, IsLeastBound, IsChosen, MentionAtMost, HasSmallBound};
-ghost use Rattle.diff_close.specs.Scratch.{IsClosureOf};
+ghost use Rattle.diff_close.specs.Scratch.{IsClosureOf, IsClosed};
 
 use crate::literals::Literals;
-use crate::names::{name_all, node};
+use crate::names::{is_same_side, name_all, node};
 use cub_base::Memory;
 use cub_proto::{ISide, Lit, Term};
 use diff_core::{Cycle, Differences};
@@ -76,5 +76,39 @@ impl DiffScratch {
         ensures { result.now ≡ self.now.closing.cycle }
     {
         self.differences.cycle()
+    }
+
+    /// The least entailed bound of `a - b`, or None where none is entailed. For use after an `Ok`.
+    pub fn bound(&self, a: ISide, b: ISide) -> Option<i64>
+        requires { IsClosed self.now }
+        ensures { (lits : List Lit) → IsClosureOf lits self.now → IsLeastBound lits a b result }
+    {
+        let terms = self.names.as_slice();
+        let first = node(terms, &a);
+        let second = node(terms, &b);
+        if is_same_side(&a, &b) {
+            return Some(0);
+        }
+        if first > terms.len() {
+            return None;
+        }
+        if second > terms.len() {
+            return None;
+        }
+        self.differences.bound(first, second)
+    }
+
+    /// The chosen solution at a side: the least sum of a path that ends there, less that of zero. For use after an `Ok`.
+    pub fn value(&self, a: ISide) -> i64
+        requires { IsClosed self.now }
+        ensures { (lits : List Lit) → IsClosureOf lits self.now → IsChosen lits a result }
+    {
+        let terms = self.names.as_slice();
+        let here = node(terms, &a);
+        let zero = self.differences.least_sum(0);
+        if here > terms.len() {
+            return 0 - zero;
+        }
+        self.differences.least_sum(here) - zero
     }
 }
