@@ -14,8 +14,11 @@ use Rattle.diff_core.specs.Constraints as core
 use Rattle.diff_close.specs.Literals.{HasSolution, MentionsOnly, MentionAtMost, HasSmallBound}
 use Rattle.diff_close.specs.Names.{term_eq, node_of, constraint_of}
 use Rattle.diff_close.specs.AreNames.{AreNames}
+use Rattle.diff_core.specs.Table.{far, cell}
+use Rattle.diff_core.proofs.Exact.{closure_solved}
+use Rattle.diff_close.specs.Scratch.{Scratch, IsClosureOf}
 use Rattle.diff_close.proofs.Terms.{node_in, few_names, none_named, mentions_more}
-use Rattle.diff_close.proofs.Translate.{constraint_is, length_is, node_value, solves_down}
+use Rattle.diff_close.proofs.Translate.{constraint_is, length_is, node_value, solves_down, solution_up}
 
 pub all_left : {X : Type 0} (P : X → Type 0) (xs ys : List X) → All P (xs ++ ys) → All P xs
 all_left P xs ys all k d k_in = subst P (get_or-append xs ys d k k_in) (all k d (omega (arith, k_in, length-append xs ys)))
@@ -64,3 +67,7 @@ range_of names lits only small k k_in =
 
 pub refuted_up : (names : List Term) (lits : List Lit) → All (MentionsOnly names) lits → (core.HasSolution (map (constraint_of names) lits) → ⊥) → HasSolution lits → ⊥
 refuted_up names lits only none (v, solves) = none (node_value names v, solves_down names lits only v solves)
+
+-- literals that are closed have a solution
+pub closure_has : (lits : List Lit) (s : Scratch) → IsClosureOf lits s → HasSolution lits
+closure_has lits s is = solution_up s.names lits is.named (closure_solved (map (constraint_of s.names) lits) s.closing.table.nodes far (cell s.closing.table.entries) is.table)
