@@ -46,10 +46,11 @@ pub numbered : (room : ℕ) (lits more : List Lit) (empty first second : List Te
 numbered room lits more empty first second none (all, few, only) kept_first kept_second in_first in_second grows =
     let are_empty : AreNames all empty = subst (λ (m : List Term). AreNames all m) (sym none) (none_named all) in
     let are : AreNames all second = kept_second all (kept_first all are_empty (all_left (MentionsOnly all) lits more only)) (all_right (MentionsOnly all) lits more only) in
-    record
-    { named = All-append (MentionsOnly second) lits more (λ k d k_in. mentions_more first second grows (get_or lits k d) (in_first k d k_in)) in_second
-    ; distinct = are.distinct
-    ; few = omega (arith, few, few_names all second are) }
+    record {
+      named = All-append (MentionsOnly second) lits more (λ k d k_in. mentions_more first second grows (get_or lits k d) (in_first k d k_in)) in_second;
+      distinct = are.distinct;
+      few = omega (arith, few, few_names all second are);
+    }
 
 in_range : (names : List Term) (l : Lit) → MentionsOnly names l → HasSmallBound l → core.IsInRange (length names + 1) (constraint_of names l)
 in_range names (FinIn t mask) only small = record { left_in = omega arith; right_in = omega arith; at_least = omega (arith, ints); at_most = omega (arith, ints) }

@@ -45,11 +45,13 @@ term_eq_laws = record { refl = term_eq_same; symm = symm; congr = λ x y z e. ap
   where
     symm : (x y : Term) → term_eq x y ≡ term_eq y x
     symm x y =
-        elim (bool_cases (term_eq x y))
-        [ inl e ↦ let same : x ≡ y = term_eq_true x y e in e ∙ sym (subst (λ (w : Term). term_eq w x ≡ true) same (term_eq_same x))
-        | inr e ↦ elim (bool_cases (term_eq y x))
-            [ inl f ↦ let same : y ≡ x = term_eq_true y x f in let on : term_eq x y ≡ true = subst (λ (w : Term). term_eq w y ≡ true) same (term_eq_same y) in absurd (cc)
-            | inr f ↦ e ∙ sym f ] ]
+        elim (bool_cases (term_eq x y)) [
+          | inl e ↦ let same : x ≡ y = term_eq_true x y e in e ∙ sym (subst (λ (w : Term). term_eq w x ≡ true) same (term_eq_same x))
+          | inr e ↦ elim (bool_cases (term_eq y x)) [
+            | inl f ↦ let same : y ≡ x = term_eq_true y x f in let on : term_eq x y ≡ true = subst (λ (w : Term). term_eq w y ≡ true) same (term_eq_same y) in absurd (cc)
+            | inr f ↦ e ∙ sym f
+          ]
+        ]
 
 -- where the term is, and that it is there
 pub index_bound : (xs : List Term) (t : Term) → index_of xs t ≤ length xs
@@ -59,13 +61,14 @@ index_bound (x ∷ xs) t = elim (term_eq x t) as (λ b. cond b 0 (suc (index_of 
 pub index_in : (xs : List Term) (t d : Term) → index_of xs t < length xs → get_or xs (index_of xs t) d ≡ t
 index_in [] t d h = absurd (omega (arith, h))
 index_in (x ∷ xs) t d h =
-    elim (bool_cases (term_eq x t))
-    [ inl e ↦ rw e (term_eq_true x t e)
-    | inr e ↦
-        let here : index_of (x ∷ xs) t ≡ suc (index_of xs t) = rw e refl in
-        let low : index_of xs t < length xs = omega (arith, h, here) in
-        let next : get_or (x ∷ xs) (suc (index_of xs t)) d ≡ get_or xs (index_of xs t) d = refl in
-        ap (λ i. get_or (x ∷ xs) i d) here ∙ next ∙ index_in xs t d low ]
+    elim (bool_cases (term_eq x t)) [
+      | inl e ↦ rw e (term_eq_true x t e)
+      | inr e ↦
+          let here : index_of (x ∷ xs) t ≡ suc (index_of xs t) = rw e refl in
+          let low : index_of xs t < length xs = omega (arith, h, here) in
+          let next : get_or (x ∷ xs) (suc (index_of xs t)) d ≡ get_or xs (index_of xs t) d = refl in
+          ap (λ i. get_or (x ∷ xs) i d) here ∙ next ∙ index_in xs t d low
+    ]
 
 pub index_first : (xs : List Term) (t d : Term) (k : ℕ) → k < length xs → get_or xs k d ≡ t → index_of xs t ≤ k
 index_first [] t d k h e = absurd (omega (arith, h))
@@ -73,9 +76,10 @@ index_first (x ∷ xs) t d zero h e =
     let same : term_eq x t ≡ true = rw e (term_eq_same t) in
     rw same (omega arith)
 index_first (x ∷ xs) t d (suc k) h e =
-    elim (bool_cases (term_eq x t))
-    [ inl same ↦ rw same (omega arith)
-    | inr other ↦ rw other (omega (arith, index_first xs t d k (omega (arith, h)) e)) ]
+    elim (bool_cases (term_eq x t)) [
+      | inl same ↦ rw same (omega arith)
+      | inr other ↦ rw other (omega (arith, index_first xs t d k (omega (arith, h)) e))
+    ]
 
 -- a term that stands in the list is found
 pub index_found : (xs : List Term) (t : Term) → Contains xs t → index_of xs t < length xs
@@ -91,12 +95,13 @@ index_own xs d distinct i i_in =
     let low : index_of xs t ≤ i = index_first xs t d i i_in refl in
     let here : get_or xs (index_of xs t) d ≡ t = index_in xs t d (omega (arith, low, i_in)) in
     let cases : (index_of xs t < i) ⊎ (index_of xs t ≡ i) = search (arith, low) in
-    elim cases
-    [ inl less ↦
-        let apart : term_eq (get_or xs (index_of xs t) d) (get_or xs i d) ≡ false = apart_from_distinct term_eq xs (index_of xs t) i d distinct less i_in in
-        let same : term_eq (get_or xs (index_of xs t) d) (get_or xs i d) ≡ true = rw here (term_eq_same t) in
-        absurd (cc)
-    | inr same ↦ same ]
+    elim cases [
+      | inl less ↦
+          let apart : term_eq (get_or xs (index_of xs t) d) (get_or xs i d) ≡ false = apart_from_distinct term_eq xs (index_of xs t) i d distinct less i_in in
+          let same : term_eq (get_or xs (index_of xs t) d) (get_or xs i d) ≡ true = rw here (term_eq_same t) in
+          absurd (cc)
+      | inr same ↦ same
+    ]
 
 -- sides that are numbered have different nodes
 pub node_same : (xs : List Term) (a b : ISide) → IsAmong xs a → IsAmong xs b → node_of xs a ≡ node_of xs b → a ≡ b
@@ -135,12 +140,13 @@ node_own xs distinct (suc i) h = omega (arith, index_own xs (Global 0) distinct 
 member_found : (xs : List Term) (q : Term) → list_any (term_eq q) xs ≡ true → index_of xs q < length xs
 member_found [] q h = absurd (cc)
 member_found (x ∷ xs) q h =
-    elim (bool_cases (term_eq x q))
-    [ inl e ↦ rw e (omega arith)
-    | inr e ↦
-        let flipped : term_eq q x ≡ false = term_eq_laws.symm q x ∙ e in
-        let rest : list_any (term_eq q) xs ≡ true = rw flipped at h in
-        rw e (omega (arith, member_found xs q rest)) ]
+    elim (bool_cases (term_eq x q)) [
+      | inl e ↦ rw e (omega arith)
+      | inr e ↦
+          let flipped : term_eq q x ≡ false = term_eq_laws.symm q x ∙ e in
+          let rest : list_any (term_eq q) xs ≡ true = rw flipped at h in
+          rw e (omega (arith, member_found xs q rest))
+    ]
 
 pub contains_member : (xs : List Term) (q : Term) (k : ℕ) → k < length xs → get_or xs k q ≡ q → list_any (term_eq q) xs ≡ true
 contains_member [] q k h e = absurd (omega (arith, h))
@@ -165,13 +171,14 @@ few_names all names are = length-le_from_is_member term_eq_laws names all are.di
 pub index_from : (xs : List Term) (t d : Term) (i : ℕ) → i ≤ length xs → ((k : ℕ) → k < i → term_eq (get_or xs k d) t ≡ false) → i ≤ index_of xs t
 index_from xs t d i i_in others =
     let cases : (index_of xs t < i) ⊎ (i ≤ index_of xs t) = search arith in
-    elim cases
-    [ inl less ↦
-        let here : get_or xs (index_of xs t) d ≡ t = index_in xs t d (omega (arith, less, i_in)) in
-        let off : term_eq (get_or xs (index_of xs t) d) t ≡ false = others (index_of xs t) less in
-        let on : term_eq (get_or xs (index_of xs t) d) t ≡ true = rw here (term_eq_same t) in
-        absurd (cc)
-    | inr most ↦ most ]
+    elim cases [
+      | inl less ↦
+          let here : get_or xs (index_of xs t) d ≡ t = index_in xs t d (omega (arith, less, i_in)) in
+          let off : term_eq (get_or xs (index_of xs t) d) t ≡ false = others (index_of xs t) less in
+          let on : term_eq (get_or xs (index_of xs t) d) t ≡ true = rw here (term_eq_same t) in
+          absurd (cc)
+      | inr most ↦ most
+    ]
 
 -- the first term that is the same is at its place
 pub index_here : (xs : List Term) (t d : Term) (i : ℕ) → i < length xs → ((k : ℕ) → k < i → term_eq (get_or xs k d) t ≡ false) → term_eq (get_or xs i d) t ≡ true → i ≡ index_of xs t
@@ -183,14 +190,16 @@ index_none xs t d others = omega (arith, index_bound xs t, index_from xs t d (le
 
 -- a term that is not there can be added
 pub names_push : (all names : List Term) (t : Term) → AreNames all names → Contains all t → index_of names t ≡ length names → AreNames all (names ++ t ∷ [])
-names_push all names t are there absent = record
-  { distinct = IsDistinct-push term_eq_laws names t are.distinct (off names t absent)
-  ; among = All-push (Contains all) names t are.among there }
+names_push all names t are there absent = record {
+  distinct = IsDistinct-push term_eq_laws names t are.distinct (off names t absent);
+  among = All-push (Contains all) names t are.among there;
+}
   where
     off : (xs : List Term) (q : Term) → index_of xs q ≡ length xs → list_any (term_eq q) xs ≡ false
-    off xs q none = elim (bool_cases (list_any (term_eq q) xs))
-        [ inl on ↦ absurd (omega (arith, none, member_found xs q on))
-        | inr no_one ↦ no_one ]
+    off xs q none = elim (bool_cases (list_any (term_eq q) xs)) [
+      | inl on ↦ absurd (omega (arith, none, member_found xs q on))
+      | inr no_one ↦ no_one
+    ]
 
 pub side_pushed : (all names : List Term) (t : Term) (side : ISide) → side ≡ At t → AreNames all names → IsAmong all side → index_of names t ≡ length names → AreNames all (names ++ t ∷ [])
 side_pushed all names t side is are among absent = names_push all names t are (subst (λ (x : ISide). IsAmong all x) is among) absent

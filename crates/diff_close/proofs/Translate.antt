@@ -72,7 +72,6 @@ holds_up names u (Diff a b bound) kept =
     omega (arith, ints, first, second, kept)
 
 module _ (names : List Term) (lits : List Lit) (named : All (MentionsOnly names) lits) where
-
   abbrev pub constraints : List Constraint
   constraints = map (constraint_of names) lits
 

@@ -27,7 +27,6 @@ kind_of names (ProcNe a b) = inr refl
 kind_of names (Diff a b bound) = inl (a, b, bound, refl)
 
 module _ (names : List Term) (lits : List Lit) (named : All (MentionsOnly names) lits) where
-
   abbrev constraints : List Constraint
   constraints = map (constraint_of names) lits
 
@@ -55,9 +54,12 @@ module _ (names : List Term) (lits : List Lit) (named : All (MentionsOnly names)
       let con_is : core.constraint_at constraints k ≡ constraint_of names (Diff diff.0 diff.1 diff.2) = constraint_at_is k diff.0 diff.1 diff.2 low diff.3 in
       let among : IsAmong names diff.0 × IsAmong names diff.1 = sides_named k diff.0 diff.1 diff.2 low diff.3 in
       let from : diff.1 ≡ a = node_same names diff.1 a among.1 a_in (sym (ap (λ (c : Constraint). c.right) con_is) ∙ right_is ∙ sym a_is) in
-      let onward : core.IsPath constraints (node_of names diff.0) ks y (s -ℤ diff.2) = subst (λ (c : Constraint). core.IsPath constraints c.left ks y (s -ℤ c.bound)) con_is rest in
-      (diff.0, diff.2, step_up k a diff.1 diff.0 diff.2 low diff.3 from,
-        path_up (node_of names diff.0) y ks (s -ℤ diff.2) diff.0 b among.0 b_in refl b_is onward (All-tail (λ j. core.IsProper (core.constraint_at constraints j)) k ks proper))
+      let onward : core.IsPath constraints (node_of names diff.0) ks y (s -ℤ diff.2) = subst (λ (c : Constraint). core.IsPath constraints c.left ks y (s -ℤ c.bound)) con_is rest in (
+        diff.0,
+        diff.2,
+        step_up k a diff.1 diff.0 diff.2 low diff.3 from,
+        path_up (node_of names diff.0) y ks (s -ℤ diff.2) diff.0 b among.0 b_in refl b_is onward (All-tail (λ j. core.IsProper (core.constraint_at constraints j)) k ks proper),
+      )
 
   pub cycle_up : (ks : List ℕ) → core.IsNegativeCycle constraints ks → core.AreProper constraints ks → IsNegativeCycle lits ks
   cycle_up [] (x, s, path, negative) proper = absurd (omega (arith, ints, path.1, negative))
@@ -76,20 +78,21 @@ module _ (names : List Term) (lits : List Lit) (named : All (MentionsOnly names)
   path_some x y [] s a b a_in b_in a_is b_is (same, none) = ([], (node_same names a b a_in b_in (a_is ∙ same ∙ sym b_is), none))
   path_some x y (k ∷ ks) s a b a_in b_in a_is b_is (k_in, right_is, rest) =
       let low : k < length lits = omega (arith, k_in, length_is names lits) in
-      elim (kind_of names (get_or lits k nothing))
-      [ inl (a', b', bound, is) ↦
-          let con_is : core.constraint_at constraints k ≡ constraint_of names (Diff a' b' bound) = constraint_at_is k a' b' bound low is in
-          let among : IsAmong names a' × IsAmong names b' = sides_named k a' b' bound low is in
-          let from : b' ≡ a = node_same names b' a among.1 a_in (sym (ap (λ (c : Constraint). c.right) con_is) ∙ right_is ∙ sym a_is) in
-          let onward : core.IsPath constraints (node_of names a') ks y (s -ℤ bound) = subst (λ (c : Constraint). core.IsPath constraints c.left ks y (s -ℤ c.bound)) con_is rest in
-          let more : (js : List ℕ) × IsPath lits a' js b (s -ℤ bound) = path_some (node_of names a') y ks (s -ℤ bound) a' b among.0 b_in refl b_is onward in
-          (k ∷ more.0, (a', bound, step_up k a b' a' bound low is from, more.1))
-      | inr trivial ↦
-          let con_is : core.constraint_at constraints k ≡ record { left = 0; right = 0; bound = pos 0 } = constraint_is names lits k nothing low ∙ trivial in
-          let onward : core.IsPath constraints 0 ks y (s -ℤ pos 0) = subst (λ (c : Constraint). core.IsPath constraints c.left ks y (s -ℤ c.bound)) con_is rest in
-          let here : node_of names a ≡ 0 = a_is ∙ sym right_is ∙ ap (λ (c : Constraint). c.right) con_is in
-          let same : s -ℤ pos 0 ≡ s = omega (arith, ints) in
-          path_some 0 y ks s a b a_in b_in here b_is (subst (λ (z : ℤ). core.IsPath constraints 0 ks y z) same onward) ]
+      elim (kind_of names (get_or lits k nothing)) [
+        | inl (a', b', bound, is) ↦
+            let con_is : core.constraint_at constraints k ≡ constraint_of names (Diff a' b' bound) = constraint_at_is k a' b' bound low is in
+            let among : IsAmong names a' × IsAmong names b' = sides_named k a' b' bound low is in
+            let from : b' ≡ a = node_same names b' a among.1 a_in (sym (ap (λ (c : Constraint). c.right) con_is) ∙ right_is ∙ sym a_is) in
+            let onward : core.IsPath constraints (node_of names a') ks y (s -ℤ bound) = subst (λ (c : Constraint). core.IsPath constraints c.left ks y (s -ℤ c.bound)) con_is rest in
+            let more : (js : List ℕ) × IsPath lits a' js b (s -ℤ bound) = path_some (node_of names a') y ks (s -ℤ bound) a' b among.0 b_in refl b_is onward in
+            (k ∷ more.0, (a', bound, step_up k a b' a' bound low is from, more.1))
+        | inr trivial ↦
+            let con_is : core.constraint_at constraints k ≡ record { left = 0; right = 0; bound = pos 0 } = constraint_is names lits k nothing low ∙ trivial in
+            let onward : core.IsPath constraints 0 ks y (s -ℤ pos 0) = subst (λ (c : Constraint). core.IsPath constraints c.left ks y (s -ℤ c.bound)) con_is rest in
+            let here : node_of names a ≡ 0 = a_is ∙ sym right_is ∙ ap (λ (c : Constraint). c.right) con_is in
+            let same : s -ℤ pos 0 ≡ s = omega (arith, ints) in
+            path_some 0 y ks s a b a_in b_in here b_is (subst (λ (z : ℤ). core.IsPath constraints 0 ks y z) same onward)
+      ]
 
   pub path_down : (a b : ISide) (ks : List ℕ) (s : ℤ) → IsPath lits a ks b s → core.IsPath constraints (node_of names a) ks (node_of names b) s
   path_down a b [] s (same, none) = (ap (node_of names) same, none)
@@ -139,9 +142,10 @@ changed_there v t z = let on : term_eq t t ≡ true = term_eq_same t in rw on re
 changed_side : (v : Term → ℤ) (t : Term) (z : ℤ) (a : ISide) → (a ≡ At t → ⊥) → side_value (changed v t z) a ≡ side_value v a
 changed_side v t z Zero other = refl
 changed_side v t z (At u) other =
-    elim (bool_cases (term_eq t u))
-    [ inl e ↦ absurd (other (ap At (sym (term_eq_true t u e))))
-    | inr e ↦ rw e refl ]
+    elim (bool_cases (term_eq t u)) [
+      | inl e ↦ absurd (other (ap At (sym (term_eq_true t u e))))
+      | inr e ↦ rw e refl
+    ]
 
 changed_holds : (names : List Term) (v : Term → ℤ) (t : Term) (z : ℤ) → (Contains names t → ⊥) → (l : Lit) → MentionsOnly names l → Holds v l → Holds (changed v t z) l
 changed_holds names v t z out (FinIn u mask) among holds = tt

@@ -18,7 +18,11 @@ fn constraint(terms: &[Term], literal: &Lit) -> Constraint
             right: node(terms, b),
             bound: *bound,
         },
-        Lit::FinIn { .. } | Lit::FinEq { .. } | Lit::FinNe { .. } | Lit::ProcEq { .. } | Lit::ProcNe { .. } => Constraint {
+        Lit::FinIn { .. }
+        | Lit::FinEq { .. }
+        | Lit::FinNe { .. }
+        | Lit::ProcEq { .. }
+        | Lit::ProcNe { .. } => Constraint {
             left: 0,
             right: 0,
             bound: 0,

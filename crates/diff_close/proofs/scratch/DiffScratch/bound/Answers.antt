@@ -47,5 +47,5 @@ returns c lits is =
     let second : IsAmong s.names c.args.b = within_all s.names c.args.b (subst (λ (m : List Term). node_of m c.args.b ≤ length m) terms_are (omega (arith, c.if-second-terms.false, c.node-second.ensures))) in
     let second_node : c.node-second.result ≡ node_of s.names c.args.b = c.node-second.ensures ∙ ap (λ (m : List Term). node_of m c.args.b) terms_are in
     let found : core.IsLeastBound cs (node_of s.names c.args.a) (node_of s.names c.args.b) c.bound.result =
-        subst (λ (x : ℕ). core.IsLeastBound cs x (node_of s.names c.args.b) c.bound.result) first_node (subst (λ (y : ℕ). core.IsLeastBound cs c.node-first.result y c.bound.result) second_node (c.bound.ensures cs table)) in
+    subst (λ (x : ℕ). core.IsLeastBound cs x (node_of s.names c.args.b) c.bound.result) first_node (subst (λ (y : ℕ). core.IsLeastBound cs c.node-first.result y c.bound.result) second_node (c.bound.ensures cs table)) in
     bound_up s.names lits is.named c.args.a c.args.b first second c.bound.result found

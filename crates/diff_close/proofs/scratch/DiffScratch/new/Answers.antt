@@ -8,8 +8,9 @@ use Rattle.diff_close.proofs.scratch.DiffScratch.new.Goals as goal
 pub invariant_of-result : goal.invariant_of-result
 invariant_of-result c =
     let items : c.in_ok-names.names.items ≡ [] = c.in_ok-names.ensures.items in
-    record
-    { few = c.requires
-    ; enough = omega (arith, c.in_ok-names.ensures.capacity)
-    ; distinct = subst (λ (m : List Term). IsDistinct term_eq m) (sym items) (none_named []).distinct
-    ; within = omega (arith, ap (length {A = Term}) items) }
+    record {
+      few = c.requires;
+      enough = omega (arith, c.in_ok-names.ensures.capacity);
+      distinct = subst (λ (m : List Term). IsDistinct term_eq m) (sym items) (none_named []).distinct;
+      within = omega (arith, ap (length {A = Term}) items);
+    }

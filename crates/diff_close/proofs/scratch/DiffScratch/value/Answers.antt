@@ -31,12 +31,13 @@ returns-then-here-terms c lits is =
     let zero_fits : SFits w64 c.least_sum-zero.result = record { sfits = c.least_sum-zero.type_inv } in
     let least_zero : IsLeastSum lits Zero c.least_sum-zero.result = least_up s.names lits is.named distinct fits Zero tt c.least_sum-zero.result (c.least_sum-zero.ensures.least cs table) in
     let one : (t : Term) × (c.args.a ≡ At t) × (Contains s.names t → ⊥) = past_all s.names c.args.a past in
-    record
-    { here = pos 0
-    ; zero = c.least_sum-zero.result
-    ; least_here = subst (λ (x : ISide). IsLeastSum lits x (pos 0)) (sym one.1) (least_other s.names lits is.named one.0 one.2)
-    ; least_zero = least_zero
-    ; difference = omega (arith, ints, c.least_sum-zero.ensures.at_most, c.least_sum-zero.ensures.at_least) }
+    record {
+      here = pos 0;
+      zero = c.least_sum-zero.result;
+      least_here = subst (λ (x : ISide). IsLeastSum lits x (pos 0)) (sym one.1) (least_other s.names lits is.named one.0 one.2);
+      least_zero = least_zero;
+      difference = omega (arith, ints, c.least_sum-zero.ensures.at_most, c.least_sum-zero.ensures.at_least);
+    }
 
 pub returns : goal.returns
 returns c lits is =
@@ -52,9 +53,10 @@ returns c lits is =
     let least_zero : IsLeastSum lits Zero c.least_sum-zero.result = least_up s.names lits is.named distinct fits Zero tt c.least_sum-zero.result (c.least_sum-zero.ensures.least cs table) in
     let here_fits : SFits w64 c.least_sum.result = record { sfits = c.least_sum.type_inv } in
     let at_node : core.IsLeastSum cs (node_of s.names c.args.a) c.least_sum.result = subst (λ (x : ℕ). core.IsLeastSum cs x c.least_sum.result) among_node (c.least_sum.ensures.least cs table) in
-    record
-    { here = c.least_sum.result
-    ; zero = c.least_sum-zero.result
-    ; least_here = least_up s.names lits is.named distinct fits c.args.a among c.least_sum.result at_node
-    ; least_zero = least_zero
-    ; difference = omega (arith, ints, c.least_sum-zero.ensures.at_most, c.least_sum-zero.ensures.at_least, c.least_sum.ensures.at_most, c.least_sum.ensures.at_least) }
+    record {
+      here = c.least_sum.result;
+      zero = c.least_sum-zero.result;
+      least_here = least_up s.names lits is.named distinct fits c.args.a among c.least_sum.result at_node;
+      least_zero = least_zero;
+      difference = omega (arith, ints, c.least_sum-zero.ensures.at_most, c.least_sum-zero.ensures.at_least, c.least_sum.ensures.at_most, c.least_sum.ensures.at_least);
+    }
