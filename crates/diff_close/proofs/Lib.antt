@@ -1,0 +1,4 @@
+pub mod Terms
+pub mod Translate
+pub mod Ways
+pub mod Closes

@@ -1,0 +1,5 @@
+pub mod Literals
+pub mod Names
+pub mod Scratch
+pub mod AreNames
+pub mod IsScratch
