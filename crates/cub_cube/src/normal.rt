@@ -1,0 +1,217 @@
+//! The normal form of a conjunction: masks on one term become one, of several bounds on one difference the least stays,
+//! what is true by itself is dropped, and the rest rises. It is made by insertion into one list with room for all
+//! literals. The place is looked for from the end, so a list that is nearly in order takes linear time, and any other
+//! at most one move for each pair of its literals, which are few.
+
+ghost use Rattle.std.specs.Prelude.{◌≡◌, ◌≢◌, ◌-◌, ◌<◌, ◌≤◌, drop, slice_index_or, slice_get, length, option_map, IsTrue, IfOk, OnOk, All};
+ghost use Rattle.cub_proto.specs.StateOf.{signature_of};
+ghost use Rattle.cub_proto.specs.Fits.{sorts_fit};
+ghost use Rattle.cub_proto.specs.Signature.{declared_sort, sort_of, constructors_of, constructors_at};
+ghost use Rattle.cub_cube.specs.Order.{lit_cmp, term_cmp, process_side_cmp, integer_side_cmp};
+ghost use Rattle.cub_cube.specs.Normal.{ordered, full_mask, is_true_alone, subject, subject_cmp, joined, inserted, placed, normal_form, subjects_rise, are_two_places, mask_of, bound_of};
+
+use crate::order;
+use cub_base::{Items, Memory};
+use cub_proto::{Decls, Lit, Lits, PSide, Protocol, Sort, SortDecls, Term};
+use std::alloc::{AllocError, Global};
+use std::cmp::Ordering;
+
+fn declared_sort(decls: &Decls, number: u16) -> Option<Sort>
+    ensures { result ≡ declared_sort decls.now number }
+{
+    match decls.get(number as usize) {
+        Some(decl) => Some(decl.sort),
+        None => None,
+    }
+}
+
+fn sort_of(protocol: &Protocol, term: Term) -> Option<Sort>
+    ensures { result ≡ sort_of (signature_of protocol.now) term }
+{
+    match term {
+        Term::Global(global) => declared_sort(&protocol.globals, global),
+        Term::Cell(array, _) => declared_sort(&protocol.arrays, array),
+    }
+}
+
+fn constructors_of(protocol: &Protocol, sort: Sort) -> usize
+    ensures value { result ≡ constructors_of (signature_of protocol.now) sort }
+    ensures few { result ≤ 64 }
+{
+    match sort {
+        Sort::Fin(number) => match protocol.sorts.get(number as usize) {
+            Some(decl) => decl.cons.len(),
+            None => 0,
+        },
+        Sort::Proc | Sort::Int => 0,
+    }
+}
+
+fn constructors_at(protocol: &Protocol, term: Term) -> usize
+    ensures value { result ≡ constructors_at (signature_of protocol.now) term }
+    ensures few { result ≤ 64 }
+{
+    match sort_of(protocol, term) {
+        Some(sort) => constructors_of(protocol, sort),
+        None => 0,
+    }
+}
+
+/// The mask of all constructors of a term's sort; 0 where the sort is not finite.
+pub fn full_mask(protocol: &Protocol, term: Term) -> u64
+    ensures { result ≡ full_mask (signature_of protocol.now) term }
+{
+    let count = constructors_at(protocol, term);
+    if count == 64 {
+        u64::MAX
+    } else {
+        (1 << count) - 1
+    }
+}
+
+/// The literal with the smaller side of an equality first.
+pub fn ordered(lit: &Lit) -> Lit
+    ensures { result ≡ ordered lit.now }
+{
+    match *lit {
+        Lit::FinEq { a, b } if order::compare_terms(a, b) == Ordering::Greater => Lit::FinEq {
+            a: b,
+            b: a,
+        },
+        Lit::FinNe { a, b } if order::compare_terms(a, b) == Ordering::Greater => Lit::FinNe {
+            a: b,
+            b: a,
+        },
+        Lit::ProcEq { a, b } if order::compare_process_sides(a, b) == Ordering::Greater =>
+            Lit::ProcEq { a: b, b: a },
+        Lit::ProcNe { a, b } if order::compare_process_sides(a, b) == Ordering::Greater =>
+            Lit::ProcNe { a: b, b: a },
+        other => other,
+    }
+}
+
+fn are_two_places(a: PSide, b: PSide) -> bool
+    ensures { result ≡ are_two_places a b }
+{
+    match (a, b) {
+        (PSide::Place(p), PSide::Place(q)) => p != q,
+        _ => false,
+    }
+}
+
+/// Whether the literal is true by itself: a mask of all constructors, an equality of equal sides, two different
+/// places, or a difference of equal sides with a bound of at least 0. It is false by itself where its negation is
+/// true by itself.
+pub fn is_true_alone(protocol: &Protocol, lit: &Lit) -> bool
+    ensures { result ≡ is_true_alone (signature_of protocol.now) lit.now }
+{
+    match *lit {
+        Lit::FinIn { term, mask } => mask == full_mask(protocol, term),
+        Lit::FinEq { a, b } => order::compare_terms(a, b) == Ordering::Equal,
+        Lit::FinNe { .. } => false,
+        Lit::ProcEq { a, b } => order::compare_process_sides(a, b) == Ordering::Equal,
+        Lit::ProcNe { a, b } => are_two_places(a, b),
+        Lit::Diff { a, b, bound } => order::compare_integer_sides(a, b) == Ordering::Equal
+            && bound >= 0,
+    }
+}
+
+fn subject(lit: &Lit) -> Lit
+    ensures { result ≡ subject lit.now }
+{
+    match *lit {
+        Lit::FinIn { term, .. } => Lit::FinIn { term, mask: 0 },
+        Lit::Diff { a, b, .. } => Lit::Diff { a, b, bound: 0 },
+        other => other,
+    }
+}
+
+/// The order of what two literals speak of: masks and bounds don't count.
+pub fn compare_subjects(a: &Lit, b: &Lit) -> Ordering
+    ensures { result ≡ subject_cmp a.now b.now }
+{
+    order::compare_lits(&subject(a), &subject(b))
+}
+
+fn mask_of(lit: &Lit) -> u64
+    ensures { result ≡ mask_of lit.now }
+{
+    match *lit {
+        Lit::FinIn { mask, .. } => mask,
+        _ => 0,
+    }
+}
+
+fn bound_of(lit: &Lit) -> i64
+    ensures { result ≡ bound_of lit.now }
+{
+    match *lit {
+        Lit::Diff { bound, .. } => bound,
+        _ => 0,
+    }
+}
+
+/// Two literals of one subject as one.
+pub fn joined(lit: &Lit, other: &Lit) -> Lit
+    ensures { result ≡ joined lit.now other.now }
+{
+    match *lit {
+        Lit::FinIn { term, mask } => Lit::FinIn {
+            term,
+            mask: mask & mask_of(other),
+        },
+        Lit::Diff { a, b, bound } => Lit::Diff {
+            a,
+            b,
+            bound: bound.min(bound_of(other)),
+        },
+        same => same,
+    }
+}
+
+// how many literals stand at or before the place of `lit`, in a rising list
+fn count_up_to(form: &[Lit], lit: &Lit) -> usize
+    ensures within { result ≤ length form.now }
+    ensures after { All (λ m. subject_cmp lit.now m ≡ Ordering.Less) (drop result form.now) }
+    ensures before { 0 < result → subject_cmp lit.now (slice_index_or form.now (result - 1) lit.now) ≢ Ordering.Less }
+{
+    let mut count = form.len();
+    while count > 0 && compare_subjects(lit, &form[count - 1]) == Ordering::Less {
+        count -= 1;
+    }
+    count
+}
+
+fn insert(form: &mut Vec<Lit>, lit: Lit) -> Result<(), AllocError>
+    requires { IsTrue (subjects_rise form.old.items) }
+    ensures { OnOk result (form.new.items ≡ inserted form.old.items lit) }
+{
+    let count = count_up_to(form.as_slice(), &lit);
+    if count > 0 && compare_subjects(&lit, &form[count - 1]) == Ordering::Equal {
+        form[count - 1] = joined(&form[count - 1], &lit);
+        return Ok(());
+    }
+    form.insert(count, lit)?;
+    Ok(())
+}
+
+fn place(protocol: &Protocol, form: &mut Vec<Lit>, lit: &Lit) -> Result<(), AllocError>
+    requires { IsTrue (subjects_rise form.old.items) }
+    ensures { OnOk result (form.new.items ≡ placed (signature_of protocol.now) form.old.items lit.now) }
+{
+    if is_true_alone(protocol, lit) {
+        return Ok(());
+    }
+    insert(form, ordered(lit))
+}
+
+/// The normal form of a conjunction.
+pub fn normal_form(alloc: Global, protocol: &Protocol, lits: &[Lit]) -> Result<Lits, Memory>
+    ensures { IfOk result (λ form. form ≡ normal_form (signature_of protocol.now) lits.now) }
+{
+    let mut form = Vec::with_capacity(alloc, lits.len())?;
+    for lit in lits {
+        place(protocol, &mut form, lit)?;
+    }
+    Ok(Items::from_vec(form))
+}
