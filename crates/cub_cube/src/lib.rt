@@ -19,3 +19,8 @@ pub use normal::{compare_subjects, full_mask, is_true_alone, joined, normal_form
 mod renaming;
 
 pub use renaming::{renamed, renamed_term, renamed_value};
+
+// Laws.
+mod laws;
+
+pub use laws::{normal_form_fits, normal_form_is_normal, normal_form_keeps_meaning, normal_form_stays};

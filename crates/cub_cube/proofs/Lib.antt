@@ -1,0 +1,4 @@
+pub mod Orders
+pub mod Bools
+pub mod States
+pub mod Subjects
