@@ -2,3 +2,5 @@ pub mod Orders
 pub mod Bools
 pub mod States
 pub mod Subjects
+pub mod Alone
+pub mod Form
