@@ -39,10 +39,10 @@ full_has n c below = ap (λ b. b == 1) (bit_at_ones n c below)
 nothing_between : (x bound : ℤ) → IsTrue (int_le (pos 0) bound) → int_le (x -ℤ x) bound ≡ true
 nothing_between x bound h = grind (arith, ints)
 
-not_same : (x y : ℕ) → (x ≡ y → ⊥) → not (x == y) ≡ true
+pub not_same : (x y : ℕ) → (x ≡ y → ⊥) → not (x == y) ≡ true
 not_same x y h = grind (arith, nat_tests)
 
-is_not_same : (x y : ℕ) → IsTrue (not (x == y)) → x ≡ y → ⊥
+pub is_not_same : (x y : ℕ) → IsTrue (not (x == y)) → x ≡ y → ⊥
 is_not_same x y h e = grind (arith, nat_tests)
 
 module _ (p : Protocol) (s : Configuration) (places : List ℕ) (state : IsStateOf p s) (distinct : AreDistinctAlive s places) where
