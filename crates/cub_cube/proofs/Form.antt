@@ -1,7 +1,8 @@
 -- The normal form: its meaning, its order, and that it is its own normal form.
-use Rattle.std.proofs.Common.{◌≡◌, ℕ, ◌+◌, ◌<◌, ◌≤◌, ◌^◌, ◌-◌, ℤ, pos, Bool, true, false, cond, List, [], ◌∷◌, ◌++◌, length, refl, sym, ap, ◌∙◌, subst, arith, zero, suc, Option, Some, None}
+use Rattle.std.proofs.Common.{◌≡◌, ℕ, ◌+◌, ◌<◌, ◌≤◌, ◌^◌, ◌-◌, ℤ, pos, Bool, true, false, cond, List, [], ◌∷◌, ◌++◌, length, refl, sym, ap, ◌∙◌, subst, arith, zero, suc, Option, Some, None, get_or, set, take, drop}
 use Rattle.std.specs.Prelude.{◌&&◌, ◌==◌, not, IsTrue, fold, All, bit_and, nat_lt, int_le}
-use Rattle.std.specs.List.{list_all}
+use Rattle.std.specs.List.{list_all, AllByRecursion as ByRecursion}
+use Rattle.std.proofs.lemmas.List.{append-nil, append_assoc}
 use Rattle.std.specs.Int.{int_min}
 use Rattle.std.proofs.lemmas.Nat.{and_le_l}
 use Rattle.std.specs.Ordering.{is_lt, is_gt, is_eq, match_ordering, ordering_reverse}
@@ -357,3 +358,91 @@ pub form_is_normal : (sig : Signature) (width : ℕ) (lits : List Lit) → IsTru
 form_is_normal sig width lits fits =
     and_both (list_all (is_plain sig) (normal_form sig lits)) (subjects_rise (normal_form sig lits))
         (all_plain sig width (normal_form sig lits) (fold_plain sig width [] lits refl fits)) (rises_fold sig [] lits refl)
+
+-- ---- a normal form stays
+ordered-plain : (l : Lit) → IsTrue (has_ordered_sides l) → ordered l ≡ l
+ordered-plain (FinIn t mask) h = refl
+ordered-plain (FinEq a b) h = by (is_gt (term_cmp a b)) h
+  where
+  by : (x : Bool) → IsTrue (not x) → cond x (FinEq b a) (FinEq a b) ≡ FinEq a b
+  by true k = cc
+  by false k = refl
+ordered-plain (FinNe a b) h = by (is_gt (term_cmp a b)) h
+  where
+  by : (x : Bool) → IsTrue (not x) → cond x (FinNe b a) (FinNe a b) ≡ FinNe a b
+  by true k = cc
+  by false k = refl
+ordered-plain (ProcEq a b) h = by (is_gt (process_side_cmp a b)) h
+  where
+  by : (x : Bool) → IsTrue (not x) → cond x (ProcEq b a) (ProcEq a b) ≡ ProcEq a b
+  by true k = cc
+  by false k = refl
+ordered-plain (ProcNe a b) h = by (is_gt (process_side_cmp a b)) h
+  where
+  by : (x : Bool) → IsTrue (not x) → cond x (ProcNe b a) (ProcNe a b) ≡ ProcNe a b
+  by true k = cc
+  by false k = refl
+ordered-plain (Diff a b bound) h = refl
+
+placed-plain : (sig : Signature) (form : List Lit) (l : Lit) → IsTrue (is_plain sig l) → placed sig form l ≡ inserted form l
+placed-plain sig form l h = by (is_true_alone sig l) (and_right (has_ordered_sides l) (not (is_true_alone sig l)) h)
+  where
+  by : (x : Bool) → IsTrue (not x) → cond x form (inserted form (ordered l)) ≡ inserted form l
+  by true k = cc
+  by false k = ap (inserted form) (ordered-plain l (and_left (has_ordered_sides l) (not (is_true_alone sig l)) h))
+
+pub all_at : {X : Type 0} (f : X → Bool) (xs : List X) (j : ℕ) (d : X) → IsTrue (list_all f xs) → j < length xs → IsTrue (f (get_or xs j d))
+all_at f [] j d h below = absurd (omega arith)
+all_at f (x ∷ xs) zero d h below = and_left (f x) (list_all f xs) h
+all_at f (x ∷ xs) (suc j) d h below = all_at f xs j d (and_right (f x) (list_all f xs) h) (omega arith)
+
+middle_holds : {X : Type 0} (f : X → Bool) (xs : List X) (y : X) (ys : List X) → IsTrue (list_all f (xs ++ y ∷ ys)) → IsTrue (f y)
+middle_holds f [] y ys h = and_left (f y) (list_all f ys) h
+middle_holds f (x ∷ xs) y ys h = middle_holds f xs y ys (and_right (f x) (list_all f (xs ++ y ∷ ys)) h)
+
+inserted_end : (form : List Lit) (l : Lit) (ls : List Lit) → IsTrue (subjects_rise (form ++ l ∷ ls)) → inserted form l ≡ form ++ l ∷ []
+inserted_end [] l ls rises = refl
+inserted_end (m ∷ ms) l ls rises =
+    ap (λ o. match_ordering o (l ∷ m ∷ ms) (joined m l ∷ ms) (m ∷ inserted ms l))
+        (less_back m l (below_less m l (middle_holds (λ x. is_lt (subject_cmp m x)) ms l ls (and_left (list_all (λ x. is_lt (subject_cmp m x)) (ms ++ l ∷ ls)) (subjects_rise (ms ++ l ∷ ls)) rises))))
+    ∙ ap (λ xs. m ∷ xs) (inserted_end ms l ls (and_right (list_all (λ x. is_lt (subject_cmp m x)) (ms ++ l ∷ ls)) (subjects_rise (ms ++ l ∷ ls)) rises))
+
+fold_end : (sig : Signature) (form lits : List Lit) → IsTrue (list_all (is_plain sig) lits) → IsTrue (subjects_rise (form ++ lits)) → fold (placed sig) form lits ≡ form ++ lits
+fold_end sig form [] plain rises = sym (append-nil form)
+fold_end sig form (l ∷ ls) plain rises =
+    ap (λ xs. fold (placed sig) xs ls) (placed-plain sig form l (and_left (is_plain sig l) (list_all (is_plain sig) ls) plain) ∙ inserted_end form l ls rises)
+    ∙ fold_end sig (form ++ l ∷ []) ls (and_right (is_plain sig l) (list_all (is_plain sig) ls) plain) (subst (λ xs. IsTrue (subjects_rise xs)) (sym (append_assoc form (l ∷ []) ls)) rises)
+    ∙ append_assoc form (l ∷ []) ls
+
+pub form_stays : (sig : Signature) (lits : List Lit) → IsTrue (is_normal sig lits) → normal_form sig lits ≡ lits
+form_stays sig lits h = fold_end sig [] lits (and_left (list_all (is_plain sig) lits) (subjects_rise lits) h) (and_right (list_all (is_plain sig) lits) (subjects_rise lits) h)
+
+-- ---- insertion by number
+less_than_greater : (m x l : Lit) → IsTrue (is_lt (subject_cmp m x)) → subject_cmp l x ≡ Greater → subject_cmp l m ≡ Greater
+less_than_greater m x l h k = less_back m l (subject_cmp_total.trans m x l (below_less m x h) (greater_back l x k))
+
+less_than_equal : (m x l : Lit) → IsTrue (is_lt (subject_cmp m x)) → subject_cmp l x ≡ Equal → subject_cmp l m ≡ Greater
+less_than_equal m x l h k = subject_cmp_total.congr l x m k ∙ less_back m x (below_less m x h)
+
+pub inserted_at : (form : List Lit) (l : Lit) (n : ℕ) → IsTrue (subjects_rise form) → n ≤ length form → ByRecursion (λ m. subject_cmp l m ≡ Less) (drop n form)
+    → ((k : ℕ) → suc k ≡ n → subject_cmp l (get_or form k l) ≡ Greater) → take n form ++ l ∷ drop n form ≡ inserted form l
+inserted_at [] l zero rises within after before = refl
+inserted_at [] l (suc n) rises within after before = absurd (omega arith)
+inserted_at (m ∷ ms) l zero rises within after before =
+    sym (ap (λ o. match_ordering o (l ∷ m ∷ ms) (joined m l ∷ ms) (m ∷ inserted ms l)) after.0)
+inserted_at (m ∷ ms) l (suc n) rises within after before =
+    ap (λ xs. m ∷ xs) (inserted_at ms l n (and_right (list_all (λ x. is_lt (subject_cmp m x)) ms) (subjects_rise ms) rises) (omega arith) after (λ k e. before (suc k) (ap suc e)))
+    ∙ sym (ap (λ o. match_ordering o (l ∷ m ∷ ms) (joined m l ∷ ms) (m ∷ inserted ms l)) (greater n within before))
+  where
+  greater : (j : ℕ) → suc j ≤ suc (length ms) → ((k : ℕ) → suc k ≡ suc j → subject_cmp l (get_or (m ∷ ms) k l) ≡ Greater) → subject_cmp l m ≡ Greater
+  greater zero below last = last 0 refl
+  greater (suc j) below last =
+      less_than_greater m (get_or ms j l) l (all_at (λ x. is_lt (subject_cmp m x)) ms j l (and_left (list_all (λ x. is_lt (subject_cmp m x)) ms) (subjects_rise ms) rises) (omega arith)) (last (suc j) refl)
+
+pub joined_at : (form : List Lit) (l : Lit) (k : ℕ) → IsTrue (subjects_rise form) → k < length form → subject_cmp l (get_or form k l) ≡ Equal → set form k (joined (get_or form k l) l) ≡ inserted form l
+joined_at [] l k rises within same = absurd (omega arith)
+joined_at (m ∷ ms) l zero rises within same = sym (ap (λ o. match_ordering o (l ∷ m ∷ ms) (joined m l ∷ ms) (m ∷ inserted ms l)) same)
+joined_at (m ∷ ms) l (suc k) rises within same =
+    ap (λ xs. m ∷ xs) (joined_at ms l k (and_right (list_all (λ x. is_lt (subject_cmp m x)) ms) (subjects_rise ms) rises) (omega arith) same)
+    ∙ sym (ap (λ o. match_ordering o (l ∷ m ∷ ms) (joined m l ∷ ms) (m ∷ inserted ms l))
+        (less_than_equal m (get_or ms k l) l (all_at (λ x. is_lt (subject_cmp m x)) ms k l (and_left (list_all (λ x. is_lt (subject_cmp m x)) ms) (subjects_rise ms) rises) (omega arith)) same))
