@@ -4,3 +4,5 @@ pub mod States
 pub mod Subjects
 pub mod Alone
 pub mod Form
+pub mod Insertion
+pub mod Counts

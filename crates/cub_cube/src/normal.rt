@@ -3,7 +3,7 @@
 //! literals. The place is looked for from the end, so a list that is nearly in order takes linear time, and any other
 //! at most one move for each pair of its literals, which are few.
 
-ghost use Rattle.std.specs.Prelude.{◌≡◌, ◌≢◌, ◌-◌, ◌<◌, ◌≤◌, drop, slice_index_or, slice_get, length, option_map, IsTrue, IfOk, OnOk, All};
+ghost use Rattle.std.specs.Prelude.{◌≡◌, ◌≢◌, ◌-◌, ◌<◌, ◌≤◌, drop, slice_index_or, slice_get, length, option_map, false, IsTrue, IfOk, OnOk, All};
 ghost use Rattle.cub_proto.specs.StateOf.{signature_of};
 ghost use Rattle.cub_proto.specs.Fits.{sorts_fit};
 ghost use Rattle.cub_proto.specs.Signature.{declared_sort, sort_of, constructors_of, constructors_at};
@@ -182,12 +182,22 @@ fn count_up_to(form: &[Lit], lit: &Lit) -> usize
     count
 }
 
+// whether the literal before that place has the subject of `lit`
+fn has_subject_before(form: &[Lit], place: usize, lit: &Lit) -> bool
+    requires { place ≤ length form.now }
+    ensures there { IsTrue result → 0 < place }
+    ensures same { IsTrue result → subject_cmp lit.now (slice_index_or form.now (place - 1) lit.now) ≡ Ordering.Equal }
+    ensures other { result ≡ false → 0 < place → subject_cmp lit.now (slice_index_or form.now (place - 1) lit.now) ≢ Ordering.Equal }
+{
+    place > 0 && compare_subjects(lit, &form[place - 1]) == Ordering::Equal
+}
+
 fn insert(form: &mut Vec<Lit>, lit: Lit) -> Result<(), AllocError>
     requires { IsTrue (subjects_rise form.old.items) }
     ensures { OnOk result (form.new.items ≡ inserted form.old.items lit) }
 {
     let count = count_up_to(form.as_slice(), &lit);
-    if count > 0 && compare_subjects(&lit, &form[count - 1]) == Ordering::Equal {
+    if has_subject_before(form.as_slice(), count, &lit) {
         form[count - 1] = joined(&form[count - 1], &lit);
         return Ok(());
     }
