@@ -22,11 +22,11 @@ use Rattle.cub_proto.specs.StateOf.{IsStateOf, signature_of}
 use Rattle.cub_proto.specs.Fits.{literal_fits, is_finite, place_fits, process_side_fits}
 use Rattle.cub_proto.specs.Truth.{is_true, has_bit, constructor_at, process_at, integer_at}
 use Rattle.cub_proto.specs.Legal.{AreDistinctAlive}
-use Rattle.cub_cube.specs.Order.{term_cmp, process_side_cmp, integer_side_cmp}
+use Rattle.cub_proto.specs.Order.{term_cmp, process_side_cmp, integer_side_cmp}
 use Rattle.cub_cube.specs.Normal.{is_true_alone, full_mask, are_two_places}
 use Rattle.cub_cube.proofs.Bools.{and_left, and_right, same_refl, same_is, less_is}
 use Rattle.cub_cube.proofs.Orders.{terms_equal, process_sides_equal, integer_sides_equal}
-use Rattle.cub_cube.proofs.States.{constructor_below}
+use Rattle.cub_cube.proofs.States.{constructor_below, apart}
 
 equal_from : (o : Ordering) → IsTrue (is_eq o) → o ≡ Equal
 equal_from Less h = cc
@@ -46,20 +46,12 @@ pub is_not_same : (x y : ℕ) → IsTrue (not (x == y)) → x ≡ y → ⊥
 is_not_same x y h e = grind (arith, nat_tests)
 
 module _ (p : Protocol) (s : Configuration) (places : List ℕ) (state : IsStateOf p s) (distinct : AreDistinctAlive s places) where
-  -- processes at two places differ
-  pub apart : (i j : ℕ) → i < length places → j < length places → (i ≡ j → ⊥) → slice_index places i ≡ slice_index places j → ⊥
-  apart i j below within differ same = by (nat_lt i j) refl
-    where
-    by : (b : Bool) → nat_lt i j ≡ b → ⊥
-    by true e = distinct.distinct i j 0 (less_is i j e) within same
-    by false e = let back : j < i = grind (arith, common_steps) in distinct.distinct j i 0 back below (sym same)
-
   two_places_true : (a b : PSide) → IsTrue (process_side_fits (signature_of p) (length places) a) → IsTrue (process_side_fits (signature_of p) (length places) b) → IsTrue (are_two_places a b)
       → not (process_at s places a == process_at s places b) ≡ true
   two_places_true (PSide.Global g) b fit fits h = cc
   two_places_true (PSide.Place i) (PSide.Global g) fit fits h = cc
   two_places_true (PSide.Place i) (PSide.Place j) fit fits h =
-      not_same (slice_index places i) (slice_index places j) (apart i j (less_is i (length places) fit) (less_is j (length places) fits) (is_not_same i j h))
+      not_same (slice_index places i) (slice_index places j) (apart s places distinct i j (less_is i (length places) fit) (less_is j (length places) fits) (is_not_same i j h))
 
   pub alone_true : (l : Lit) → IsTrue (literal_fits (signature_of p) (length places) l) → IsTrue (is_true_alone (signature_of p) l) → is_true s places l ≡ true
   alone_true (FinIn t mask) fits h =
@@ -75,8 +67,8 @@ module _ (p : Protocol) (s : Configuration) (places : List ℕ) (state : IsState
       ap (λ t. process_at s places a == process_at s places t) (sym (process_sides_equal a b (equal_from (process_side_cmp a b) h))) ∙ same_refl (process_at s places a)
   alone_true (ProcNe a b) fits h =
       two_places_true a b (and_left (process_side_fits (signature_of p) (length places) a) (process_side_fits (signature_of p) (length places) b) fits)
-          (and_right (process_side_fits (signature_of p) (length places) a) (process_side_fits (signature_of p) (length places) b) fits) h
+      (and_right (process_side_fits (signature_of p) (length places) a) (process_side_fits (signature_of p) (length places) b) fits) h
   alone_true (Diff a b bound) fits h =
       ap (λ t. int_le (integer_at s places a -ℤ integer_at s places t) bound)
-          (sym (integer_sides_equal a b (equal_from (integer_side_cmp a b) (and_left (is_eq (integer_side_cmp a b)) (int_le (pos 0) bound) h))))
+      (sym (integer_sides_equal a b (equal_from (integer_side_cmp a b) (and_left (is_eq (integer_side_cmp a b)) (int_le (pos 0) bound) h))))
       ∙ nothing_between (integer_at s places a) bound (and_right (is_eq (integer_side_cmp a b)) (int_le (pos 0) bound) h)

@@ -64,3 +64,19 @@ le_is x y h = grind (arith, common_steps)
 
 pub is_le : (x y : ℕ) → x ≤ y → nat_le x y ≡ true
 is_le x y h = grind (arith, common_steps)
+
+pub or_left : (a b : Bool) → (a || b) ≡ false → a ≡ false
+or_left true b h = cc
+or_left false b h = refl
+
+pub or_right : (a b : Bool) → (a || b) ≡ false → b ≡ false
+or_right true b h = cc
+or_right false b h = h
+
+pub or_intro_left : (a b : Bool) → IsTrue a → IsTrue (a || b)
+or_intro_left true b h = refl
+or_intro_left false b h = cc
+
+pub or_intro_right : (a b : Bool) → IsTrue b → IsTrue (a || b)
+or_intro_right true b h = refl
+or_intro_right false b h = h

@@ -25,5 +25,5 @@ pub inserted_before : (form : List Lit) (l : Lit) (n : ℕ) → IsTrue (subjects
     → (0 < n → subject_cmp l (get_or form (n - 1) l) ≢ Less) → (0 < n → subject_cmp l (get_or form (n - 1) l) ≢ Equal) → take n form ++ l ∷ drop n form ≡ inserted form l
 inserted_before form l n rises within after not_less not_equal =
     inserted_at form l n rises within (recursion_from_All (λ m. subject_cmp l m ≡ Less) (drop n form) after)
-        (λ k e. let some : 0 < n = omega arith in let same : n - 1 ≡ k = omega arith in
-            subst (λ i. subject_cmp l (get_or form i l) ≡ Greater) same (last_case (subject_cmp l (get_or form (n - 1) l)) (not_less some) (not_equal some)))
+    (λ k e. let some : 0 < n = omega arith in let same : n - 1 ≡ k = omega arith in
+    subst (λ i. subject_cmp l (get_or form i l) ≡ Greater) same (last_case (subject_cmp l (get_or form (n - 1) l)) (not_less some) (not_equal some)))

@@ -6,3 +6,7 @@ pub mod Alone
 pub mod Form
 pub mod Insertion
 pub mod Counts
+pub mod Renames
+pub mod Placing
+pub mod Covering
+pub mod KeptLemmas

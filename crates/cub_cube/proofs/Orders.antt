@@ -13,7 +13,7 @@ use Rattle.cub_proto.specs.declared.literal.ISide.{ISide}
 use Rattle.cub_proto.specs.declared.literal.ISide.TheVariants.{Zero, At}
 use Rattle.cub_proto.specs.declared.literal.Lit.{Lit}
 use Rattle.cub_proto.specs.declared.literal.Lit.TheVariants.{FinIn, FinEq, FinNe, ProcEq, ProcNe, Diff}
-use Rattle.cub_cube.specs.Order.{term_cmp, process_side_cmp, integer_side_cmp, lit_kind, lit_cmp}
+use Rattle.cub_proto.specs.Order.{term_cmp, process_side_cmp, integer_side_cmp, lit_kind, lit_cmp}
 use Rattle.cub_cube.specs.Normal.{subject, subject_cmp, mask_of, bound_of}
 
 pub then_Equal : (o : Ordering) → o ≡ ordering_then o Equal

@@ -3,6 +3,7 @@ use Rattle.std.proofs.Common.{◌≡◌, ◌⊎◌, ℕ, zero, suc, ◌<◌, ◌
 use Rattle.std.specs.Prelude.{slice_get, slice_index, slice_index_or, option_map, All, AllPairs, IsTrue, ◌&&◌, nat_lt, unwrap_or}
 use Rattle.std.specs.List.{AllZip}
 use Rattle.std.specs.Option.{option_map_or}
+use Rattle.std.proofs.lemmas.Grind.{common_steps}
 use Rattle.std.proofs.lemmas.List.{get_or_past}
 use Rattle.std.proofs.lemmas.Option.{slice_get_cases, get_or_from_slice_get, slice_get_within}
 use Rattle.cub_proto.specs.declared.literal.Sort.{Sort}
@@ -41,9 +42,9 @@ declared_is (d ∷ decls) (suc n) sort h = declared_is decls n sort h
 pub alive_within : (s : Configuration) (i : ℕ) → IsAlive s i → i < process_count s
 alive_within s i alive = by (slice_get_cases s.living i).1
   where
-  by : ((x : Bool) × (i < length s.living) × (slice_get s.living i ≡ Some x) × (get_or s.living i x ≡ x)) ⊎ ((length s.living ≤ i) × (slice_get s.living i ≡ None)) → i < process_count s
-  by (inl found) = found.1
-  by (inr past) = let none = get_or_past s.living i false past.0 in cc
+    by : ((x : Bool) × (i < length s.living) × (slice_get s.living i ≡ Some x) × (get_or s.living i x ≡ x)) ⊎ ((length s.living ≤ i) × (slice_get s.living i ≡ None)) → i < process_count s
+    by (inl found) = found.1
+    by (inr past) = let none = get_or_past s.living i false past.0 in cc
 
 -- a process at a place is there
 pub place_within : (s : Configuration) (places : List ℕ) (p : ℕ) → AreDistinctAlive s places → p < length places → slice_index places p < process_count s
@@ -55,7 +56,7 @@ pub value_fits_sort : (p : Protocol) (s : Configuration) (places : List ℕ) (t 
 value_fits_sort p s places (Term.Global g) sort state distinct fits is =
     let d = declared_is p.globals g sort is in
     subst (λ v. IsOfSort (signature_of p) (process_count s) v (get_or s.globals g (Con 0))) d.2
-        (zip_at (λ d v. IsOfSort (signature_of p) (process_count s) d.sort v) p.globals s.globals g d.0 (Con 0) state.globals_fit d.1)
+    (zip_at (λ d v. IsOfSort (signature_of p) (process_count s) d.sort v) p.globals s.globals g d.0 (Con 0) state.globals_fit d.1)
 value_fits_sort p s places (Term.Cell a q) sort state distinct fits is =
     let d = declared_is p.arrays a sort is in
     let cells : AreCells (signature_of p) (process_count s) d.0 (cells_of s a) = zip_at (AreCells (signature_of p) (process_count s)) p.arrays s.arrays a d.0 [] state.arrays_fit d.1 in
@@ -80,4 +81,12 @@ pub constructor_below : (p : Protocol) (s : Configuration) (places : List ℕ) (
 constructor_below p s places t state distinct fits finite =
     let k = finite_is (sort_of (signature_of p) t) finite in
     subst (λ o. constructor_at s places t < option_map_or (constructors_of (signature_of p)) o 0) (sym k.1)
-        (constructor_fits (signature_of p) (process_count s) k.0 (term_value s places t) (value_fits_sort p s places t (Sort.Fin k.0) state distinct fits k.1))
+    (constructor_fits (signature_of p) (process_count s) k.0 (term_value s places t) (value_fits_sort p s places t (Sort.Fin k.0) state distinct fits k.1))
+
+-- processes at two places differ
+pub apart : (s : Configuration) (places : List ℕ) → AreDistinctAlive s places → (i j : ℕ) → i < length places → j < length places → (i ≡ j → ⊥) → slice_index places i ≡ slice_index places j → ⊥
+apart s places distinct i j below within differ same = by (nat_lt i j) refl
+  where
+    by : (b : Bool) → nat_lt i j ≡ b → ⊥
+    by true e = distinct.distinct i j 0 (less_is i j e) within same
+    by false e = let back : j < i = grind (arith, common_steps) in distinct.distinct j i 0 back below (sym same)

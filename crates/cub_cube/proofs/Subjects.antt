@@ -15,7 +15,7 @@ use Rattle.cub_proto.specs.declared.literal.Lit.{Lit}
 use Rattle.cub_proto.specs.declared.literal.Lit.TheVariants.{FinIn, FinEq, FinNe, ProcEq, ProcNe, Diff}
 use Rattle.cub_proto.specs.Configuration.{Configuration}
 use Rattle.cub_proto.specs.Truth.{is_true, has_bit, constructor_at, process_at, integer_at}
-use Rattle.cub_cube.specs.Order.{term_cmp, process_side_cmp, integer_side_cmp}
+use Rattle.cub_proto.specs.Order.{term_cmp, process_side_cmp, integer_side_cmp}
 use Rattle.cub_cube.specs.Normal.{ordered, subject_cmp, joined}
 use Rattle.cub_cube.proofs.Bools.{and_self, same_comm}
 use Rattle.cub_cube.proofs.Orders.{then_both, terms_equal, process_sides_equal, integer_sides_equal}
@@ -36,32 +36,32 @@ one_subject (FinIn t m) (FinIn u n) h =
 one_subject (FinEq a b) (FinEq c d) h =
     let both = then_both (term_cmp a c) (term_cmp b d) h in
     subst (λ v. OneSubject (FinEq a b) (FinEq v d)) (terms_equal a c both.0)
-        (subst (λ v. OneSubject (FinEq a b) (FinEq a v)) (terms_equal b d both.1) (equal_terms a b))
+    (subst (λ v. OneSubject (FinEq a b) (FinEq a v)) (terms_equal b d both.1) (equal_terms a b))
 one_subject (FinNe a b) (FinNe c d) h =
     let both = then_both (term_cmp a c) (term_cmp b d) h in
     subst (λ v. OneSubject (FinNe a b) (FinNe v d)) (terms_equal a c both.0)
-        (subst (λ v. OneSubject (FinNe a b) (FinNe a v)) (terms_equal b d both.1) (unequal_terms a b))
+    (subst (λ v. OneSubject (FinNe a b) (FinNe a v)) (terms_equal b d both.1) (unequal_terms a b))
 one_subject (ProcEq a b) (ProcEq c d) h =
     let both = then_both (process_side_cmp a c) (process_side_cmp b d) h in
     subst (λ v. OneSubject (ProcEq a b) (ProcEq v d)) (process_sides_equal a c both.0)
-        (subst (λ v. OneSubject (ProcEq a b) (ProcEq a v)) (process_sides_equal b d both.1) (equal_processes a b))
+    (subst (λ v. OneSubject (ProcEq a b) (ProcEq a v)) (process_sides_equal b d both.1) (equal_processes a b))
 one_subject (ProcNe a b) (ProcNe c d) h =
     let both = then_both (process_side_cmp a c) (process_side_cmp b d) h in
     subst (λ v. OneSubject (ProcNe a b) (ProcNe v d)) (process_sides_equal a c both.0)
-        (subst (λ v. OneSubject (ProcNe a b) (ProcNe a v)) (process_sides_equal b d both.1) (unequal_processes a b))
+    (subst (λ v. OneSubject (ProcNe a b) (ProcNe a v)) (process_sides_equal b d both.1) (unequal_processes a b))
 one_subject (Diff a b m) (Diff c d n) h =
     let first = then_both (integer_side_cmp a c) (ordering_then (integer_side_cmp b d) Equal) h in
     let second = then_both (integer_side_cmp b d) Equal first.1 in
     subst (λ v. OneSubject (Diff a b m) (Diff v d n)) (integer_sides_equal a c first.0)
-        (subst (λ v. OneSubject (Diff a b m) (Diff a v n)) (integer_sides_equal b d second.0) (bounds a b m n))
+    (subst (λ v. OneSubject (Diff a b m) (Diff a v n)) (integer_sides_equal b d second.0) (bounds a b m n))
 one_subject l m h = cc
 
 -- a constructor is in both masks
 pub has_bit-bit_and : (m n c : ℕ) → has_bit (bit_and m n) c ≡ (has_bit m c && has_bit n c)
 has_bit-bit_and m n c = rw (bit_at_and m n c) (of_bits (bit_at m c) (bit_at n c) (bit_at-lt m c) (bit_at-lt n c))
   where
-  of_bits : (x y : ℕ) → x < 2 → y < 2 → (min x y == 1) ≡ ((x == 1) && (y == 1))
-  of_bits x y h k = grind (arith, nat_tests)
+    of_bits : (x y : ℕ) → x < 2 → y < 2 → (min x y == 1) ≡ ((x == 1) && (y == 1))
+    of_bits x y h k = grind (arith, nat_tests)
 
 -- an integer is within both bounds
 pub int_le-int_min : (x m n : ℤ) → int_le x (int_min m n) ≡ (int_le x m && int_le x n)
@@ -80,22 +80,22 @@ module _ (s : Configuration) (places : List ℕ) where
   ordered_true (FinIn t mask) = refl
   ordered_true (FinEq a b) = by (is_gt (term_cmp a b))
     where
-    by : (x : Bool) → is_true s places (cond x (FinEq b a) (FinEq a b)) ≡ is_true s places (FinEq a b)
-    by true = same_comm (constructor_at s places b) (constructor_at s places a)
-    by false = refl
+      by : (x : Bool) → is_true s places (cond x (FinEq b a) (FinEq a b)) ≡ is_true s places (FinEq a b)
+      by true = same_comm (constructor_at s places b) (constructor_at s places a)
+      by false = refl
   ordered_true (FinNe a b) = by (is_gt (term_cmp a b))
     where
-    by : (x : Bool) → is_true s places (cond x (FinNe b a) (FinNe a b)) ≡ is_true s places (FinNe a b)
-    by true = ap not (same_comm (constructor_at s places b) (constructor_at s places a))
-    by false = refl
+      by : (x : Bool) → is_true s places (cond x (FinNe b a) (FinNe a b)) ≡ is_true s places (FinNe a b)
+      by true = ap not (same_comm (constructor_at s places b) (constructor_at s places a))
+      by false = refl
   ordered_true (ProcEq a b) = by (is_gt (process_side_cmp a b))
     where
-    by : (x : Bool) → is_true s places (cond x (ProcEq b a) (ProcEq a b)) ≡ is_true s places (ProcEq a b)
-    by true = same_comm (process_at s places b) (process_at s places a)
-    by false = refl
+      by : (x : Bool) → is_true s places (cond x (ProcEq b a) (ProcEq a b)) ≡ is_true s places (ProcEq a b)
+      by true = same_comm (process_at s places b) (process_at s places a)
+      by false = refl
   ordered_true (ProcNe a b) = by (is_gt (process_side_cmp a b))
     where
-    by : (x : Bool) → is_true s places (cond x (ProcNe b a) (ProcNe a b)) ≡ is_true s places (ProcNe a b)
-    by true = ap not (same_comm (process_at s places b) (process_at s places a))
-    by false = refl
+      by : (x : Bool) → is_true s places (cond x (ProcNe b a) (ProcNe a b)) ≡ is_true s places (ProcNe a b)
+      by true = ap not (same_comm (process_at s places b) (process_at s places a))
+      by false = refl
   ordered_true (Diff a b bound) = refl

@@ -1,4 +1,3 @@
-pub mod Order
 pub mod Normal
 pub mod Rename
 pub mod Replace

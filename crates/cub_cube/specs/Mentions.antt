@@ -9,7 +9,7 @@ use Rattle.cub_proto.specs.declared.literal.ISide.{ISide}
 use Rattle.cub_proto.specs.declared.literal.ISide.TheVariants.{Zero, At}
 use Rattle.cub_proto.specs.declared.literal.Lit.{Lit}
 use Rattle.cub_proto.specs.declared.literal.Lit.TheVariants.{FinIn, FinEq, FinNe, ProcEq, ProcNe, Diff}
-use Rattle.cub_cube.specs.Order.{term_cmp}
+use Rattle.cub_proto.specs.Order.{term_cmp}
 
 -- a process global is a term too; a place is none
 abbrev pub process_side_terms : PSide → List Term

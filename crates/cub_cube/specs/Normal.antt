@@ -10,7 +10,7 @@ use Rattle.cub_proto.specs.declared.literal.PSide.TheVariants as PSide
 use Rattle.cub_proto.specs.declared.literal.Lit.{Lit}
 use Rattle.cub_proto.specs.declared.literal.Lit.TheVariants.{FinIn, FinEq, FinNe, ProcEq, ProcNe, Diff}
 use Rattle.cub_proto.specs.Signature.{Signature, constructors_at}
-use Rattle.cub_cube.specs.Order.{term_cmp, process_side_cmp, integer_side_cmp, lit_cmp}
+use Rattle.cub_proto.specs.Order.{term_cmp, process_side_cmp, integer_side_cmp, lit_cmp}
 
 -- the literal with the smaller side of an equality first
 abbrev pub ordered : Lit → Lit

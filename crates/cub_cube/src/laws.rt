@@ -12,7 +12,7 @@ ghost use Rattle.cub_proto.specs.Fits.{literal_fits};
 ghost use Rattle.cub_proto.specs.Truth.{all_true};
 ghost use Rattle.cub_proto.specs.Effect.{meaning_of};
 ghost use Rattle.cub_proto.specs.StateOf.{IsStateOf, signature_of};
-ghost use Rattle.cub_proto.specs.Legal.{IsStart};
+ghost use Rattle.cub_proto.specs.Legal.{IsStart, AreDistinctAlive};
 ghost use Rattle.cub_proto.specs.Meets.{Satisfies, Meets, IsSafe};
 ghost use Rattle.cub_cube.specs.Normal.{normal_form, is_normal};
 ghost use Rattle.cub_cube.specs.Rename.{renamed_all, renamed_value, along, is_within, value_within, IsInjection};
@@ -26,25 +26,84 @@ ghost use Rattle.cub_cube.specs.declared.cube.Cube.{Cube};
 pub fn normal_form_keeps_meaning()
     ensures { (p : Protocol) (width : ℕ) (lits : List Lit) → IsTrue (list_all (literal_fits (signature_of p) width) lits)
         → SameMeaning p width (normal_form (signature_of p) lits) lits }
-{
-}
+{}
 
 /// The normal form of fitting literals is one.
 pub fn normal_form_is_normal()
     ensures { (sig : Signature) (width : ℕ) (lits : List Lit) → IsTrue (list_all (literal_fits sig width) lits)
         → IsTrue (is_normal sig (normal_form sig lits)) }
-{
-}
+{}
 
 /// The literals of a normal form fit where the given ones do.
 pub fn normal_form_fits()
     ensures { (sig : Signature) (width : ℕ) (lits : List Lit) → IsTrue (list_all (literal_fits sig width) lits)
         → IsTrue (list_all (literal_fits sig width) (normal_form sig lits)) }
-{
-}
+{}
 
 /// A normal form is its own normal form, so each cube has one spelling.
 pub fn normal_form_stays()
     ensures { (sig : Signature) (lits : List Lit) → IsTrue (is_normal sig lits) → normal_form sig lits ≡ lits }
-{
-}
+{}
+
+/// A renamed conjunction is true at places exactly where the given one is at the composed places. Item p of a renaming
+/// is the place of the big thing for place p of the small one.
+pub fn renamed_is_at_composed_places()
+    ensures { (s : Configuration) (r places : List ℕ) (lits : List Lit) → IsTrue (list_all (is_within (length r)) lits)
+        → all_true s places (renamed_all r lits) ≡ all_true s (along r places) lits }
+{}
+
+/// A renamed value gives at places what the given one gives at the composed places.
+pub fn renamed_value_is_at_composed_places()
+    ensures { (s : Configuration) (r places : List ℕ) (v : Value) (old : Val) → IsTrue (value_within (length r) v)
+        → meaning_of s places (renamed_value r v) old ≡ meaning_of s (along r places) v old }
+{}
+
+/// Distinct alive processes satisfy a conjunction at the places that an injection takes where it is true there.
+pub fn composed_places_satisfy()
+    ensures { (s : Configuration) (places r : List ℕ) (width : ℕ) (lits : List Lit) → IsInjection width (length places) r
+        → AreDistinctAlive s places → IsTrue (all_true s (along r places) lits) → Satisfies s (along r places) width lits }
+{}
+
+/// Each cube covers itself.
+pub fn covering_is_reflexive()
+    ensures { (p : Protocol) (c : Cube) → DoesCover p c c }
+{}
+
+/// Covering is transitive, by the composed injection.
+pub fn covering_is_transitive()
+    ensures { (p : Protocol) (d c b : Cube) (q r : List ℕ) → Covers p d c q → Covers p c b r → Covers p d b (along q r) }
+{}
+
+/// A state that meets the covered cube meets the covering one, at the composed places.
+pub fn covered_states_meet()
+    ensures satisfies { (p : Protocol) (d c : Cube) (r : List ℕ) → Covers p d c r → (s : Configuration) (places : List ℕ) → IsStateOf p s
+        → Satisfies s places c.width c.lits → Satisfies s (along r places) d.width d.lits }
+    ensures meets { (p : Protocol) (d c : Cube) → DoesCover p d c → (s : Configuration) → IsStateOf p s
+        → Meets s c.width c.lits → Meets s d.width d.lits }
+{}
+
+/// There is one least covering injection at most.
+pub fn least_cover_is_one()
+    ensures { (p : Protocol) (d c : Cube) (q r : List ℕ) → CoversLeast p d c q → CoversLeast p d c r → q ≡ r }
+{}
+
+/// What covers one of two conjunctions of the same meaning covers the other, where one is the other renamed.
+pub fn covering_goes_along()
+    ensures renamed { (p : Protocol) (width : ℕ) (r : List ℕ) (small big : List Lit) → IsInjection width width r
+        → SameMeaningAlong p width r small big → (d : Cube)
+        → DoesCover p d (record { width = width; lits = small }) → DoesCover p d (record { width = width; lits = big }) }
+    ensures back { (p : Protocol) (width : ℕ) (r : List ℕ) (small big : List Lit) → IsInjection width width r
+        → SameMeaningAlong p width r small big → (d : Cube)
+        → DoesCover p d (record { width = width; lits = big }) → DoesCover p d (record { width = width; lits = small }) }
+{}
+
+/// The consistent ones of a list of cubes, in order: there is one such list, and its cubes are exactly those of the
+/// list that some state meets.
+pub fn consistent_cubes_are_one_list()
+    ensures one { (p : Protocol) (cubes xs ys : List Cube) → Keeps (λ c. IsConsistent p c.width c.lits) cubes xs
+        → Keeps (λ c. IsConsistent p c.width c.lits) cubes ys → xs ≡ ys }
+    ensures inside { (p : Protocol) (cubes kept : List Cube) (c : Cube) → Keeps (λ d. IsConsistent p d.width d.lits) cubes kept
+        → Contains kept c → Contains cubes c × IsConsistent p c.width c.lits }
+    ensures all { (p : Protocol) (cubes kept : List Cube) (c : Cube) → Keeps (λ d. IsConsistent p d.width d.lits) cubes kept
+        → Contains cubes c → IsConsistent p c.width c.lits → Contains kept c }
+{}

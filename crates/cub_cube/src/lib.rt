@@ -7,9 +7,6 @@ mod cube;
 
 pub use cube::{Cube, Cubes};
 
-// The order of terms and literals.
-mod order;
-
 // The normal form.
 mod normal;
 
@@ -23,4 +20,9 @@ pub use renaming::{renamed, renamed_term, renamed_value};
 // Laws.
 mod laws;
 
-pub use laws::{normal_form_fits, normal_form_is_normal, normal_form_keeps_meaning, normal_form_stays};
+pub use laws::{
+    composed_places_satisfy, consistent_cubes_are_one_list, covered_states_meet,
+    covering_goes_along, covering_is_reflexive, covering_is_transitive, least_cover_is_one,
+    normal_form_fits, normal_form_is_normal, normal_form_keeps_meaning, normal_form_stays,
+    renamed_is_at_composed_places, renamed_value_is_at_composed_places,
+};

@@ -4,57 +4,26 @@
 //! at most one move for each pair of its literals, which are few.
 
 ghost use Rattle.std.specs.Prelude.{◌≡◌, ◌≢◌, ◌-◌, ◌<◌, ◌≤◌, drop, slice_index_or, slice_get, length, option_map, false, IsTrue, IfOk, OnOk, All};
+ghost use Rattle.cub_proto.specs.Signature.{constructors_at};
 ghost use Rattle.cub_proto.specs.StateOf.{signature_of};
-ghost use Rattle.cub_proto.specs.Fits.{sorts_fit};
-ghost use Rattle.cub_proto.specs.Signature.{declared_sort, sort_of, constructors_of, constructors_at};
-ghost use Rattle.cub_cube.specs.Order.{lit_cmp, term_cmp, process_side_cmp, integer_side_cmp};
+ghost use Rattle.cub_proto.specs.Order.{lit_cmp, term_cmp, process_side_cmp, integer_side_cmp};
 ghost use Rattle.cub_cube.specs.Normal.{ordered, full_mask, is_true_alone, subject, subject_cmp, joined, inserted, placed, normal_form, subjects_rise, are_two_places, mask_of, bound_of};
 
-use crate::order;
 use cub_base::{Items, Memory};
-use cub_proto::{Decls, Lit, Lits, PSide, Protocol, Sort, SortDecls, Term};
+use cub_proto::{Declared, Lit, Lits, PSide, Protocol, Term};
 use std::alloc::{AllocError, Global};
 use std::cmp::Ordering;
-
-fn declared_sort(decls: &Decls, number: u16) -> Option<Sort>
-    ensures { result ≡ declared_sort decls.now number }
-{
-    match decls.get(number as usize) {
-        Some(decl) => Some(decl.sort),
-        None => None,
-    }
-}
-
-fn sort_of(protocol: &Protocol, term: Term) -> Option<Sort>
-    ensures { result ≡ sort_of (signature_of protocol.now) term }
-{
-    match term {
-        Term::Global(global) => declared_sort(&protocol.globals, global),
-        Term::Cell(array, _) => declared_sort(&protocol.arrays, array),
-    }
-}
-
-fn constructors_of(protocol: &Protocol, sort: Sort) -> usize
-    ensures value { result ≡ constructors_of (signature_of protocol.now) sort }
-    ensures few { result ≤ 64 }
-{
-    match sort {
-        Sort::Fin(number) => match protocol.sorts.get(number as usize) {
-            Some(decl) => decl.cons.len(),
-            None => 0,
-        },
-        Sort::Proc | Sort::Int => 0,
-    }
-}
 
 fn constructors_at(protocol: &Protocol, term: Term) -> usize
     ensures value { result ≡ constructors_at (signature_of protocol.now) term }
     ensures few { result ≤ 64 }
 {
-    match sort_of(protocol, term) {
-        Some(sort) => constructors_of(protocol, sort),
-        None => 0,
-    }
+    let declared = Declared::new(
+        protocol.sorts.as_slice(),
+        protocol.globals.as_slice(),
+        protocol.arrays.as_slice(),
+    );
+    declared.constructors_at(term)
 }
 
 /// The mask of all constructors of a term's sort; 0 where the sort is not finite.
@@ -74,17 +43,17 @@ pub fn ordered(lit: &Lit) -> Lit
     ensures { result ≡ ordered lit.now }
 {
     match *lit {
-        Lit::FinEq { a, b } if order::compare_terms(a, b) == Ordering::Greater => Lit::FinEq {
+        Lit::FinEq { a, b } if cub_proto::compare_terms(a, b) == Ordering::Greater => Lit::FinEq {
             a: b,
             b: a,
         },
-        Lit::FinNe { a, b } if order::compare_terms(a, b) == Ordering::Greater => Lit::FinNe {
+        Lit::FinNe { a, b } if cub_proto::compare_terms(a, b) == Ordering::Greater => Lit::FinNe {
             a: b,
             b: a,
         },
-        Lit::ProcEq { a, b } if order::compare_process_sides(a, b) == Ordering::Greater =>
+        Lit::ProcEq { a, b } if cub_proto::compare_process_sides(a, b) == Ordering::Greater =>
             Lit::ProcEq { a: b, b: a },
-        Lit::ProcNe { a, b } if order::compare_process_sides(a, b) == Ordering::Greater =>
+        Lit::ProcNe { a, b } if cub_proto::compare_process_sides(a, b) == Ordering::Greater =>
             Lit::ProcNe { a: b, b: a },
         other => other,
     }
@@ -107,11 +76,11 @@ pub fn is_true_alone(protocol: &Protocol, lit: &Lit) -> bool
 {
     match *lit {
         Lit::FinIn { term, mask } => mask == full_mask(protocol, term),
-        Lit::FinEq { a, b } => order::compare_terms(a, b) == Ordering::Equal,
+        Lit::FinEq { a, b } => cub_proto::compare_terms(a, b) == Ordering::Equal,
         Lit::FinNe { .. } => false,
-        Lit::ProcEq { a, b } => order::compare_process_sides(a, b) == Ordering::Equal,
+        Lit::ProcEq { a, b } => cub_proto::compare_process_sides(a, b) == Ordering::Equal,
         Lit::ProcNe { a, b } => are_two_places(a, b),
-        Lit::Diff { a, b, bound } => order::compare_integer_sides(a, b) == Ordering::Equal
+        Lit::Diff { a, b, bound } => cub_proto::compare_integer_sides(a, b) == Ordering::Equal
             && bound >= 0,
     }
 }
@@ -130,7 +99,7 @@ fn subject(lit: &Lit) -> Lit
 pub fn compare_subjects(a: &Lit, b: &Lit) -> Ordering
     ensures { result ≡ subject_cmp a.now b.now }
 {
-    order::compare_lits(&subject(a), &subject(b))
+    cub_proto::compare_lits(&subject(a), &subject(b))
 }
 
 fn mask_of(lit: &Lit) -> u64
