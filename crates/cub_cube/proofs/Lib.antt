@@ -10,3 +10,5 @@ pub mod Renames
 pub mod Placing
 pub mod Covering
 pub mod KeptLemmas
+pub mod Negations
+pub mod Replaced

@@ -76,3 +76,7 @@ value_within width (Value.Read t) = place_fits width t
 value_within width (Value.Proc side) = process_side_within width side
 value_within width (Value.Sum base add) = integer_side_within width base
 value_within width Value.Any = true
+
+-- the same process at each place below the width
+abbrev pub Agree : ℕ → List ℕ → List ℕ → Type 0
+Agree width places others = (p : ℕ) → p < width → slice_index places p ≡ slice_index others p

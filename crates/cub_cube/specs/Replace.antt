@@ -1,5 +1,5 @@
 -- A literal whose terms are replaced by the values that they take. Each is again one literal.
-use Rattle.std.specs.Prelude.{ℕ, ◌^◌, ℤ, pos, ◌-ℤ◌, ◌+ℤ◌, Bool, false, true, ◌&&◌, ◌==◌, nat_le, unsigned_abs, if◌then◌else◌, List}
+use Rattle.std.specs.Prelude.{◌≡◌, All, ℕ, ◌^◌, ℤ, pos, ◌-ℤ◌, ◌+ℤ◌, Bool, false, true, ◌&&◌, ◌==◌, nat_le, unsigned_abs, if◌then◌else◌, List}
 use Rattle.std.specs.List.{list_all}
 use Rattle.std.specs.Option.{option_map_or}
 use Rattle.cub_proto.specs.declared.literal.Sort.{Sort}
@@ -15,7 +15,9 @@ use Rattle.cub_proto.specs.declared.literal.Lit.TheVariants.{FinIn, FinEq, FinNe
 use Rattle.cub_proto.specs.declared.literal.Value.{Value}
 use Rattle.cub_proto.specs.declared.literal.Value.TheVariants as Value
 use Rattle.cub_proto.specs.Signature.{Signature, sort_of}
-use Rattle.cub_proto.specs.Truth.{has_bit}
+use Rattle.cub_proto.specs.Configuration.{Configuration}
+use Rattle.cub_proto.specs.Truth.{has_bit, term_value}
+use Rattle.cub_proto.specs.Effect.{meaning_of}
 use Rattle.cub_proto.specs.Fits.{term_fits, value_fits}
 use Rattle.cub_proto.specs.Negation.{negated}
 use Rattle.cub_cube.specs.Mentions.{terms_of}
@@ -107,3 +109,8 @@ can_replace sig width sort Value.Any = false
 abbrev pub can_replace_all : Signature → ℕ → (Term → Value) → Lit → Bool
 can_replace_all sig width value lit =
     list_all (λ t. option_map_or (λ sort. can_replace sig width sort (value t)) (sort_of sig t) false) (terms_of lit)
+
+-- the literal's terms are at the second state and places what their values give at the first
+abbrev pub TakesValues : Configuration → List ℕ → Configuration → List ℕ → (Term → Value) → Lit → Type 0
+TakesValues s places after others value lit =
+    All (λ t. term_value after others t ≡ meaning_of s places (value t) (term_value s places t)) (terms_of lit)

@@ -1,22 +1,24 @@
 //! Laws of cubes: each is the contract of a call that does nothing, and holds of all protocols, states and cubes.
 
-ghost use Rattle.std.specs.Prelude.{◌≡◌, ℕ, List, length, IsTrue, Contains};
+ghost use Rattle.std.specs.Prelude.{◌≡◌, ◌≤◌, ℕ, List, length, IsTrue, Contains};
 ghost use Rattle.std.specs.List.{list_all};
 ghost use Rattle.cub_proto.specs.declared.literal.Lit.{Lit};
+ghost use Rattle.cub_proto.specs.declared.literal.Term.{Term};
 ghost use Rattle.cub_proto.specs.declared.literal.Value.{Value};
 ghost use Rattle.cub_proto.specs.declared.state.Val.{Val};
 ghost use Rattle.cub_proto.specs.declared.protocol.Protocol.{Protocol};
 ghost use Rattle.cub_proto.specs.Configuration.{Configuration};
 ghost use Rattle.cub_proto.specs.Signature.{Signature};
 ghost use Rattle.cub_proto.specs.Fits.{literal_fits};
-ghost use Rattle.cub_proto.specs.Truth.{all_true};
+ghost use Rattle.cub_proto.specs.Truth.{is_true, all_true};
 ghost use Rattle.cub_proto.specs.Effect.{meaning_of};
 ghost use Rattle.cub_proto.specs.StateOf.{IsStateOf, signature_of};
 ghost use Rattle.cub_proto.specs.Legal.{IsStart, AreDistinctAlive};
 ghost use Rattle.cub_proto.specs.Meets.{Satisfies, Meets, IsSafe};
 ghost use Rattle.cub_cube.specs.Normal.{normal_form, is_normal};
-ghost use Rattle.cub_cube.specs.Rename.{renamed_all, renamed_value, along, is_within, value_within, IsInjection};
+ghost use Rattle.cub_cube.specs.Rename.{renamed_all, renamed_value, along, is_within, value_within, IsInjection, Agree};
 ghost use Rattle.cub_cube.specs.Meaning.{IsConsistent, AreAtPlaces, SameMeaning, SameMeaningAlong};
+ghost use Rattle.cub_cube.specs.Replace.{replaced, can_replace_all, TakesValues};
 ghost use Rattle.cub_cube.specs.Kept.{Keeps};
 ghost use Rattle.cub_cube.specs.Cover.{Covers, DoesCover, CoversLeast};
 ghost use Rattle.cub_cube.specs.Inductive.{IsInductive};
@@ -107,3 +109,21 @@ pub fn consistent_cubes_are_one_list()
     ensures all { (p : Protocol) (cubes kept : List Cube) (c : Cube) → Keeps (λ d. IsConsistent p d.width d.lits) cubes kept
         → Contains cubes c → IsConsistent p c.width c.lits → Contains kept c }
 {}
+
+/// At a state of the protocol the replaced literal is true exactly where the literal is true of the values that its
+/// terms take. Where it stands for a state before a step, `after` and `others` are the state behind it and its places.
+pub fn replaced_is_true_of_values()
+    ensures { (p : Protocol) (s : Configuration) (places : List ℕ) (after : Configuration) (others : List ℕ) (width : ℕ) (value : Term → Value) (lit : Lit)
+        → IsStateOf p s → AreDistinctAlive s places → IsTrue (literal_fits (signature_of p) width lit)
+        → IsTrue (can_replace_all (signature_of p) (length places) value lit) → Agree width others places
+        → TakesValues s places after others value lit
+        → is_true s places (replaced (signature_of p) value lit) ≡ is_true after others lit }
+{
+}
+
+/// A replaced literal fits the places of its values.
+pub fn replaced_fits()
+    ensures { (p : Protocol) (width wide : ℕ) (value : Term → Value) (lit : Lit) → width ≤ wide → IsTrue (literal_fits (signature_of p) width lit)
+        → IsTrue (can_replace_all (signature_of p) wide value lit) → IsTrue (literal_fits (signature_of p) wide (replaced (signature_of p) value lit)) }
+{
+}

@@ -24,5 +24,5 @@ pub use laws::{
     composed_places_satisfy, consistent_cubes_are_one_list, covered_states_meet,
     covering_goes_along, covering_is_reflexive, covering_is_transitive, least_cover_is_one,
     normal_form_fits, normal_form_is_normal, normal_form_keeps_meaning, normal_form_stays,
-    renamed_is_at_composed_places, renamed_value_is_at_composed_places,
+    renamed_is_at_composed_places, replaced_fits, replaced_is_true_of_values, renamed_value_is_at_composed_places,
 };
