@@ -12,3 +12,5 @@ pub mod Covering
 pub mod KeptLemmas
 pub mod Negations
 pub mod Replaced
+pub mod Members
+pub mod Terms

@@ -1,6 +1,7 @@
 -- The terms that literals mention.
-use Rattle.std.specs.Prelude.{List, [], ◌∷◌, ◌++◌, fold, flat_map}
-use Rattle.std.specs.Ordering.{match_ordering}
+use Rattle.std.specs.Prelude.{Bool, true, ◌&&◌, List, [], ◌∷◌, ◌++◌, fold, Contains}
+use Rattle.std.specs.List.{flat_map, list_all}
+use Rattle.std.specs.Ordering.{is_lt, match_ordering}
 use Rattle.cub_proto.specs.declared.literal.Term.{Term}
 use Rattle.cub_proto.specs.declared.literal.Term.TheVariants as Term
 use Rattle.cub_proto.specs.declared.literal.PSide.{PSide}
@@ -37,3 +38,12 @@ with_term (u ∷ us) t = match_ordering (term_cmp t u) (t ∷ u ∷ us) (u ∷ u
 -- the terms that a conjunction mentions, rising, each once
 abbrev pub terms_in : List Lit → List Term
 terms_in lits = fold with_term [] (flat_map terms_of lits)
+
+-- each term comes before all later ones
+abbrev pub terms_rise : List Term → Bool
+terms_rise [] = true
+terms_rise (t ∷ ts) = list_all (λ u. is_lt (term_cmp t u)) ts && terms_rise ts
+
+-- a literal of the list mentions the term
+abbrev pub Mentions : List Lit → Term → Type 0
+Mentions lits t = (l : Lit) × Contains lits l × Contains (terms_of l) t

@@ -1,6 +1,6 @@
 //! Laws of cubes: each is the contract of a call that does nothing, and holds of all protocols, states and cubes.
 
-ghost use Rattle.std.specs.Prelude.{◌≡◌, ◌≤◌, ℕ, List, length, IsTrue, Contains};
+ghost use Rattle.std.specs.Prelude.{◌≡◌, ◌≤◌, ℕ, List, length, ◌↔◌, IsTrue, Contains};
 ghost use Rattle.std.specs.List.{list_all};
 ghost use Rattle.cub_proto.specs.declared.literal.Lit.{Lit};
 ghost use Rattle.cub_proto.specs.declared.literal.Term.{Term};
@@ -19,6 +19,7 @@ ghost use Rattle.cub_cube.specs.Normal.{normal_form, is_normal};
 ghost use Rattle.cub_cube.specs.Rename.{renamed_all, renamed_value, along, is_within, value_within, IsInjection, Agree};
 ghost use Rattle.cub_cube.specs.Meaning.{IsConsistent, AreAtPlaces, SameMeaning, SameMeaningAlong};
 ghost use Rattle.cub_cube.specs.Replace.{replaced, can_replace_all, TakesValues};
+ghost use Rattle.cub_cube.specs.Mentions.{terms_in, terms_rise, Mentions};
 ghost use Rattle.cub_cube.specs.Kept.{Keeps};
 ghost use Rattle.cub_cube.specs.Cover.{Covers, DoesCover, CoversLeast};
 ghost use Rattle.cub_cube.specs.Inductive.{IsInductive};
@@ -125,5 +126,12 @@ pub fn replaced_is_true_of_values()
 pub fn replaced_fits()
     ensures { (p : Protocol) (width wide : ℕ) (value : Term → Value) (lit : Lit) → width ≤ wide → IsTrue (literal_fits (signature_of p) width lit)
         → IsTrue (can_replace_all (signature_of p) wide value lit) → IsTrue (literal_fits (signature_of p) wide (replaced (signature_of p) value lit)) }
+{
+}
+
+/// The terms in a conjunction rise, and are exactly those that its literals mention.
+pub fn terms_in_are_mentioned()
+    ensures order { (lits : List Lit) → IsTrue (terms_rise (terms_in lits)) }
+    ensures members { (lits : List Lit) (t : Term) → Contains (terms_in lits) t ↔ Mentions lits t }
 {
 }

@@ -17,6 +17,11 @@ mod renaming;
 
 pub use renaming::{renamed, renamed_term, renamed_value};
 
+// The terms that are mentioned.
+mod mentions;
+
+pub use mentions::terms_in;
+
 // Laws.
 mod laws;
 
@@ -24,5 +29,5 @@ pub use laws::{
     composed_places_satisfy, consistent_cubes_are_one_list, covered_states_meet,
     covering_goes_along, covering_is_reflexive, covering_is_transitive, least_cover_is_one,
     normal_form_fits, normal_form_is_normal, normal_form_keeps_meaning, normal_form_stays,
-    renamed_is_at_composed_places, replaced_fits, replaced_is_true_of_values, renamed_value_is_at_composed_places,
+    renamed_is_at_composed_places, replaced_fits, replaced_is_true_of_values, terms_in_are_mentioned, renamed_value_is_at_composed_places,
 };
