@@ -26,7 +26,8 @@ use Rattle.cub_proto.specs.Order.{term_cmp, process_side_cmp, integer_side_cmp}
 use Rattle.cub_cube.specs.Normal.{is_true_alone, full_mask, are_two_places}
 use Rattle.cub_cube.proofs.Bools.{and_left, and_right, same_refl, same_is, less_is}
 use Rattle.cub_cube.proofs.Orders.{terms_equal, process_sides_equal, integer_sides_equal}
-use Rattle.cub_cube.proofs.States.{constructor_below, apart}
+use Rattle.cub_cube.proofs.States.{processes_within, apart}
+use Rattle.cub_proto.proofs.Opposite.{constructor_below}
 
 equal_from : (o : Ordering) → IsTrue (is_eq o) → o ≡ Equal
 equal_from Less h = cc
@@ -59,7 +60,7 @@ module _ (p : Protocol) (s : Configuration) (places : List ℕ) (state : IsState
       let finite = and_left (is_finite (sort_of (signature_of p) t)) (place_fits (length places) t) left in
       let within = and_right (is_finite (sort_of (signature_of p) t)) (place_fits (length places) t) left in
       ap (λ m. has_bit m (constructor_at s places t)) (same_is mask (full_mask (signature_of p) t) h)
-      ∙ full_has (constructors_at (signature_of p) t) (constructor_at s places t) (constructor_below p s places t state distinct within finite)
+      ∙ full_has (constructors_at (signature_of p) t) (constructor_at s places t) (constructor_below p s places state (processes_within s places distinct) t within finite)
   alone_true (FinEq a b) fits h =
       ap (λ t. constructor_at s places a == constructor_at s places t) (sym (terms_equal a b (equal_from (term_cmp a b) h))) ∙ same_refl (constructor_at s places a)
   alone_true (FinNe a b) fits h = cc

@@ -84,11 +84,11 @@ module _ (p : Protocol) (s : Configuration) (places : List ℕ) (state : IsState
       ∙ and_assoc (all_true s places form) (is_true s places l) (all_true s places ls)
 
 -- ---- order
-below_less : (k m : Lit) → IsTrue (is_lt (subject_cmp k m)) → subject_cmp k m ≡ Less
+pub below_less : (k m : Lit) → IsTrue (is_lt (subject_cmp k m)) → subject_cmp k m ≡ Less
 below_less k m h = less_from (subject_cmp k m) h
 
 -- what is below the first of a rising list is below all of it
-below_all : (k l : Lit) (ms : List Lit) → subject_cmp k l ≡ Less → IsTrue (list_all (λ m. is_lt (subject_cmp l m)) ms) → IsTrue (list_all (λ m. is_lt (subject_cmp k m)) ms)
+pub below_all : (k l : Lit) (ms : List Lit) → subject_cmp k l ≡ Less → IsTrue (list_all (λ m. is_lt (subject_cmp l m)) ms) → IsTrue (list_all (λ m. is_lt (subject_cmp k m)) ms)
 below_all k l [] h all = refl
 below_all k l (m ∷ ms) h all =
     let first = below_less l m (and_left (is_lt (subject_cmp l m)) (list_all (λ x. is_lt (subject_cmp l x)) ms) all) in

@@ -5,7 +5,6 @@ pub mod Subjects
 pub mod Alone
 pub mod Form
 pub mod Insertion
-pub mod Counts
 pub mod Renames
 pub mod Placing
 pub mod Covering
@@ -14,3 +13,9 @@ pub mod Negations
 pub mod Replaced
 pub mod Members
 pub mod Terms
+pub mod InductiveLemmas
+pub mod CrashLemmas
+pub mod Agreeing
+pub mod Adjacent
+pub mod Steps
+pub mod RenamedFits

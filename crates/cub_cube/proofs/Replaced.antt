@@ -41,31 +41,13 @@ use Rattle.cub_cube.specs.Rename.{Agree}
 use Rattle.cub_cube.specs.Mentions.{terms_of, process_side_terms, integer_side_terms}
 use Rattle.cub_cube.specs.Replace.{replaced, constant, FiniteSide, Known, Has, finite_side, side_in, sides_equal, process_value, replaced_process_side, base_of, added_of, replaced_base, replaced_added, can_replace, can_replace_all, TakesValues}
 use Rattle.cub_cube.proofs.Bools.{and_left, and_right, and_both, is_less, less_is, same_refl, same_is, same_comm}
-use Rattle.cub_cube.proofs.States.{constructor_below, declared_is, finite_is}
+use Rattle.cub_proto.proofs.StateValues.{declared_is, sort_is}
+use Rattle.cub_proto.proofs.Opposite.{negated_is}
+use Rattle.cub_cube.proofs.States.{processes_within, finite_is}
 use Rattle.cub_cube.proofs.Placing.{identity}
-use Rattle.cub_cube.proofs.Negations.{negated_true, negated_fits}
+use Rattle.cub_cube.proofs.Negations.{negated_fits}
 
 -- ---- sorts
-same_sort_is : (x y : Sort) → IsTrue (same_sort x y) → x ≡ y
-same_sort_is (Sort.Fin j) (Sort.Fin k) h = ap (λ n. Sort.Fin n) (same_is j k h)
-same_sort_is (Sort.Fin j) Sort.Proc h = cc
-same_sort_is (Sort.Fin j) Sort.Int h = cc
-same_sort_is Sort.Proc (Sort.Fin k) h = cc
-same_sort_is Sort.Proc Sort.Proc h = refl
-same_sort_is Sort.Proc Sort.Int h = cc
-same_sort_is Sort.Int (Sort.Fin k) h = cc
-same_sort_is Sort.Int Sort.Proc h = cc
-same_sort_is Sort.Int Sort.Int h = refl
-
-pub sort_is : (o : Option Sort) (sort : Sort) → IsTrue (is_sort o sort) → o ≡ Some sort
-sort_is None sort h = cc
-sort_is (Some other) sort h = ap (λ x. Some x) (same_sort_is other sort h)
-
-is_that_sort : (sort : Sort) → IsTrue (same_sort sort sort)
-is_that_sort (Sort.Fin k) = same_refl k
-is_that_sort Sort.Proc = refl
-is_that_sort Sort.Int = refl
-
 -- both sorts are the same finite one
 pub finite_both : (x y : Option Sort) → IsTrue (same_finite x y) → (k : ℕ) × (x ≡ Some (Sort.Fin k)) × (y ≡ Some (Sort.Fin k))
 finite_both (Some (Sort.Fin k)) y h = (k, refl, sort_is y (Sort.Fin k) h)
@@ -207,12 +189,12 @@ module _ (p : Protocol) (s : Configuration) (places : List ℕ) (value : Term �
   process_value_is g (Value.Sum base add) old h = cc
   process_value_is g Value.Any old h = cc
 
-  Replaces : Term → Bool
-  Replaces t = option_map_or (λ sort. can_replace (signature_of p) (length places) sort (value t)) (sort_of (signature_of p) t) false
+  replaces_term : Term → Bool
+  replaces_term t = option_map_or (λ sort. can_replace (signature_of p) (length places) sort (value t)) (sort_of (signature_of p) t) false
 
-  replaced_process_fits : (width : ℕ) (a : PSide) → width ≤ length places → IsTrue (process_side_fits (signature_of p) width a) → IsTrue (list_all Replaces (process_side_terms a))
+  replaced_process_fits : (width : ℕ) (a : PSide) → width ≤ length places → IsTrue (process_side_fits (signature_of p) width a) → IsTrue (list_all replaces_term (process_side_terms a))
       → IsTrue (process_side_fits (signature_of p) (length places) (replaced_process_side value a))
-  unfolding Replaces
+  unfolding replaces_term
   replaced_process_fits width (PSide.Global g) within fits can =
       process_value_fits g (value (Term.Global g))
           (replaces (signature_of p) (length places) value (Term.Global g) Sort.Proc (sort_is (declared_sort p.globals g) Sort.Proc fits)
@@ -223,9 +205,9 @@ module _ (p : Protocol) (s : Configuration) (places : List ℕ) (value : Term �
     Takes : Term → Type 0
     Takes t = term_value after others t ≡ meaning_of s places (value t) (term_value s places t)
 
-    replaced_process_is : (width : ℕ) (a : PSide) → IsTrue (process_side_fits (signature_of p) width a) → IsTrue (list_all Replaces (process_side_terms a)) → Agree width others places → AllByRecursion Takes (process_side_terms a)
+    replaced_process_is : (width : ℕ) (a : PSide) → IsTrue (process_side_fits (signature_of p) width a) → IsTrue (list_all replaces_term (process_side_terms a)) → Agree width others places → AllByRecursion Takes (process_side_terms a)
         → process_at s places (replaced_process_side value a) ≡ process_at after others a
-    unfolding Replaces Takes
+    unfolding replaces_term Takes
     replaced_process_is width (PSide.Global g) fits can agree takes =
         process_value_is g (value (Term.Global g)) (term_value s places (Term.Global g))
             (replaces (signature_of p) (length places) value (Term.Global g) Sort.Proc (sort_is (declared_sort p.globals g) Sort.Proc fits)
@@ -233,9 +215,9 @@ module _ (p : Protocol) (s : Configuration) (places : List ℕ) (value : Term �
         ∙ ap process_of (sym takes.0)
     replaced_process_is width (PSide.Place q) fits can agree takes = sym (agree q (less_is q width fits))
 
-    replaced_integer_is : (width : ℕ) (a : ISide) → IsTrue (integer_side_fits (signature_of p) width a) → IsTrue (list_all Replaces (integer_side_terms a)) → AllByRecursion Takes (integer_side_terms a)
+    replaced_integer_is : (width : ℕ) (a : ISide) → IsTrue (integer_side_fits (signature_of p) width a) → IsTrue (list_all replaces_term (integer_side_terms a)) → AllByRecursion Takes (integer_side_terms a)
         → integer_at after others a ≡ integer_at s places (replaced_base value a) +ℤ replaced_added value a
-    unfolding Replaces Takes
+    unfolding replaces_term Takes
     replaced_integer_is width Zero fits can takes = refl
     replaced_integer_is width (At t) fits can takes =
         ap integer_of takes.0
@@ -249,8 +231,8 @@ module _ (p : Protocol) (s : Configuration) (places : List ℕ) (value : Term �
       by (Value.Sum base add) h = refl
       by Value.Any h = cc
 
-  replaced_integer_fits : (width : ℕ) (a : ISide) → IsTrue (integer_side_fits (signature_of p) width a) → IsTrue (list_all Replaces (integer_side_terms a)) → IsTrue (integer_side_fits (signature_of p) (length places) (replaced_base value a))
-  unfolding Replaces
+  replaced_integer_fits : (width : ℕ) (a : ISide) → IsTrue (integer_side_fits (signature_of p) width a) → IsTrue (list_all replaces_term (integer_side_terms a)) → IsTrue (integer_side_fits (signature_of p) (length places) (replaced_base value a))
+  unfolding replaces_term
   replaced_integer_fits width Zero fits can = refl
   replaced_integer_fits width (At t) fits can =
       by (value t) (replaces (signature_of p) (length places) value t Sort.Int (sort_is (sort_of (signature_of p) t) Sort.Int (and_left (is_sort (sort_of (signature_of p) t) Sort.Int) (place_fits width t) fits))
@@ -264,19 +246,19 @@ module _ (p : Protocol) (s : Configuration) (places : List ℕ) (value : Term �
     by Value.Any h = cc
 
   -- a finite term of the literal: what replaces it has its constructor, and fits
-  finite_fits : (t : Term) (k : ℕ) → sort_of (signature_of p) t ≡ Some (Sort.Fin k) → IsTrue (Replaces t) → SideFits (signature_of p) (length places) k (finite_side (value t))
-  unfolding Replaces
+  finite_fits : (t : Term) (k : ℕ) → sort_of (signature_of p) t ≡ Some (Sort.Fin k) → IsTrue (replaces_term t) → SideFits (signature_of p) (length places) k (finite_side (value t))
+  unfolding replaces_term
   finite_fits t k e can = side_fits (signature_of p) (length places) k (value t) (replaces (signature_of p) (length places) value t (Sort.Fin k) e can)
 
-  finite_both_fit : (width : ℕ) (a b : Term) → IsTrue (literal_fits (signature_of p) width (FinEq a b)) → IsTrue (list_all Replaces (a ∷ b ∷ []))
+  finite_both_fit : (width : ℕ) (a b : Term) → IsTrue (literal_fits (signature_of p) width (FinEq a b)) → IsTrue (list_all replaces_term (a ∷ b ∷ []))
       → IsTrue (literal_fits (signature_of p) (length places) (sides_equal (finite_side (value a)) (finite_side (value b))))
   finite_both_fit width a b fits can =
       let k = finite_both (sort_of (signature_of p) a) (sort_of (signature_of p) b)
               (and_left (same_finite (sort_of (signature_of p) a) (sort_of (signature_of p) b)) (place_fits width a)
                   (and_left (same_finite (sort_of (signature_of p) a) (sort_of (signature_of p) b) && place_fits width a) (place_fits width b) fits)) in
       sides_equal_fits (signature_of p) (length places) k.0 (finite_side (value a)) (finite_side (value b))
-          (finite_fits a k.0 k.1 (and_left (Replaces a) (Replaces b && true) can))
-          (finite_fits b k.0 k.2 (and_left (Replaces b) true (and_right (Replaces a) (Replaces b && true) can)))
+          (finite_fits a k.0 k.1 (and_left (replaces_term a) (replaces_term b && true) can))
+          (finite_fits b k.0 k.2 (and_left (replaces_term b) true (and_right (replaces_term a) (replaces_term b && true) can)))
 
   finite_in_fits : (width : ℕ) (t : Term) (mask k : ℕ) (x : FiniteSide) → SideFits (signature_of p) (length places) k x → sort_of (signature_of p) t ≡ Some (Sort.Fin k) → IsTrue (literal_fits (signature_of p) width (FinIn t mask))
       → IsTrue (literal_fits (signature_of p) (length places) (side_in x mask))
@@ -292,72 +274,72 @@ module _ (p : Protocol) (s : Configuration) (places : List ℕ) (value : Term �
       finite_is (sort_of (signature_of p) t)
           (and_left (is_finite (sort_of (signature_of p) t)) (place_fits width t) (and_left (is_finite (sort_of (signature_of p) t) && place_fits width t) (nat_lt mask (2 ^ constructors_at (signature_of p) t)) fits))
 
-  fits_all : (width : ℕ) (l : Lit) → width ≤ length places → IsTrue (literal_fits (signature_of p) width l) → IsTrue (list_all Replaces (terms_of l)) → IsTrue (literal_fits (signature_of p) (length places) (replaced (signature_of p) value l))
+  fits_all : (width : ℕ) (l : Lit) → width ≤ length places → IsTrue (literal_fits (signature_of p) width l) → IsTrue (list_all replaces_term (terms_of l)) → IsTrue (literal_fits (signature_of p) (length places) (replaced (signature_of p) value l))
   fits_all width (FinIn t mask) within fits can =
       let k = finite_sort width t mask fits in
-      finite_in_fits width t mask k.0 (finite_side (value t)) (finite_fits t k.0 k.1 (and_left (Replaces t) true can)) k.1 fits
+      finite_in_fits width t mask k.0 (finite_side (value t)) (finite_fits t k.0 k.1 (and_left (replaces_term t) true can)) k.1 fits
   fits_all width (FinEq a b) within fits can = finite_both_fit width a b fits can
   fits_all width (FinNe a b) within fits can = negated_fits (signature_of p) (length places) (sides_equal (finite_side (value a)) (finite_side (value b))) (finite_both_fit width a b fits can)
   fits_all width (ProcEq a b) within fits can =
-      let parts = split_all Replaces (process_side_terms a) (process_side_terms b) can in
+      let parts = split_all replaces_term (process_side_terms a) (process_side_terms b) can in
       and_both (process_side_fits (signature_of p) (length places) (replaced_process_side value a)) (process_side_fits (signature_of p) (length places) (replaced_process_side value b))
           (replaced_process_fits width a within (and_left (process_side_fits (signature_of p) width a) (process_side_fits (signature_of p) width b) fits) parts.0)
           (replaced_process_fits width b within (and_right (process_side_fits (signature_of p) width a) (process_side_fits (signature_of p) width b) fits) parts.1)
   fits_all width (ProcNe a b) within fits can =
-      let parts = split_all Replaces (process_side_terms a) (process_side_terms b) can in
+      let parts = split_all replaces_term (process_side_terms a) (process_side_terms b) can in
       and_both (process_side_fits (signature_of p) (length places) (replaced_process_side value a)) (process_side_fits (signature_of p) (length places) (replaced_process_side value b))
           (replaced_process_fits width a within (and_left (process_side_fits (signature_of p) width a) (process_side_fits (signature_of p) width b) fits) parts.0)
           (replaced_process_fits width b within (and_right (process_side_fits (signature_of p) width a) (process_side_fits (signature_of p) width b) fits) parts.1)
   fits_all width (Diff a b bound) within fits can =
-      let parts = split_all Replaces (integer_side_terms a) (integer_side_terms b) can in
+      let parts = split_all replaces_term (integer_side_terms a) (integer_side_terms b) can in
       and_both (integer_side_fits (signature_of p) (length places) (replaced_base value a)) (integer_side_fits (signature_of p) (length places) (replaced_base value b))
           (replaced_integer_fits width a (and_left (integer_side_fits (signature_of p) width a) (integer_side_fits (signature_of p) width b) fits) parts.0)
           (replaced_integer_fits width b (and_right (integer_side_fits (signature_of p) width a) (integer_side_fits (signature_of p) width b) fits) parts.1)
 
   pub replaced_fits_all : (width : ℕ) (l : Lit) → width ≤ length places → IsTrue (literal_fits (signature_of p) width l) → IsTrue (can_replace_all (signature_of p) (length places) value l)
       → IsTrue (literal_fits (signature_of p) (length places) (replaced (signature_of p) value l))
-  unfolding Replaces
+  unfolding replaces_term
   replaced_fits_all width l within fits can = fits_all width l within fits can
 
   module _ (after : Configuration) (others : List ℕ) (state : IsStateOf p s) (distinct : AreDistinctAlive s places) where
-    finite_is_at : (t : Term) (k : ℕ) → sort_of (signature_of p) t ≡ Some (Sort.Fin k) → IsTrue (Replaces t) → Takes after others t → constructor_of_side s places (finite_side (value t)) ≡ constructor_at after others t
-    unfolding Replaces Takes
+    finite_is_at : (t : Term) (k : ℕ) → sort_of (signature_of p) t ≡ Some (Sort.Fin k) → IsTrue (replaces_term t) → Takes after others t → constructor_of_side s places (finite_side (value t)) ≡ constructor_at after others t
+    unfolding replaces_term Takes
     finite_is_at t k e can takes =
         side_is (signature_of p) s places (length places) k (value t) (term_value s places t) (replaces (signature_of p) (length places) value t (Sort.Fin k) e can) ∙ ap constructor_of (sym takes)
 
-    equal_true : (width : ℕ) (a b : Term) → IsTrue (literal_fits (signature_of p) width (FinEq a b)) → IsTrue (list_all Replaces (a ∷ b ∷ [])) → AllByRecursion (Takes after others) (a ∷ b ∷ [])
+    equal_true : (width : ℕ) (a b : Term) → IsTrue (literal_fits (signature_of p) width (FinEq a b)) → IsTrue (list_all replaces_term (a ∷ b ∷ [])) → AllByRecursion (Takes after others) (a ∷ b ∷ [])
         → is_true s places (sides_equal (finite_side (value a)) (finite_side (value b))) ≡ (constructor_at after others a == constructor_at after others b)
     equal_true width a b fits can takes =
         let k = finite_both (sort_of (signature_of p) a) (sort_of (signature_of p) b)
                 (and_left (same_finite (sort_of (signature_of p) a) (sort_of (signature_of p) b)) (place_fits width a)
                     (and_left (same_finite (sort_of (signature_of p) a) (sort_of (signature_of p) b) && place_fits width a) (place_fits width b) fits)) in
         sides_equal_true s places (finite_side (value a)) (finite_side (value b))
-        ∙ ap (λ x. x == constructor_of_side s places (finite_side (value b))) (finite_is_at a k.0 k.1 (and_left (Replaces a) (Replaces b && true) can) takes.0)
-        ∙ ap (λ x. constructor_at after others a == x) (finite_is_at b k.0 k.2 (and_left (Replaces b) true (and_right (Replaces a) (Replaces b && true) can)) takes.1.0)
+        ∙ ap (λ x. x == constructor_of_side s places (finite_side (value b))) (finite_is_at a k.0 k.1 (and_left (replaces_term a) (replaces_term b && true) can) takes.0)
+        ∙ ap (λ x. constructor_at after others a == x) (finite_is_at b k.0 k.2 (and_left (replaces_term b) true (and_right (replaces_term a) (replaces_term b && true) can)) takes.1.0)
 
-    processes_same : (width : ℕ) (a b : PSide) → IsTrue (process_side_fits (signature_of p) width a && process_side_fits (signature_of p) width b) → IsTrue (list_all Replaces (process_side_terms a ++ process_side_terms b)) → Agree width others places
+    processes_same : (width : ℕ) (a b : PSide) → IsTrue (process_side_fits (signature_of p) width a && process_side_fits (signature_of p) width b) → IsTrue (list_all replaces_term (process_side_terms a ++ process_side_terms b)) → Agree width others places
         → AllByRecursion (Takes after others) (process_side_terms a ++ process_side_terms b)
         → (process_at s places (replaced_process_side value a) == process_at s places (replaced_process_side value b)) ≡ (process_at after others a == process_at after others b)
     processes_same width a b fits can agree takes =
-        let parts = split_all Replaces (process_side_terms a) (process_side_terms b) can in
+        let parts = split_all replaces_term (process_side_terms a) (process_side_terms b) can in
         let each = split_each (Takes after others) (process_side_terms a) (process_side_terms b) takes in
         ap (λ x. x == process_at s places (replaced_process_side value b))
             (replaced_process_is after others width a (and_left (process_side_fits (signature_of p) width a) (process_side_fits (signature_of p) width b) fits) parts.0 agree each.0)
         ∙ ap (λ x. process_at after others a == x)
             (replaced_process_is after others width b (and_right (process_side_fits (signature_of p) width a) (process_side_fits (signature_of p) width b) fits) parts.1 agree each.1)
 
-    true_all : (width : ℕ) (l : Lit) → IsTrue (literal_fits (signature_of p) width l) → IsTrue (list_all Replaces (terms_of l)) → Agree width others places → AllByRecursion (Takes after others) (terms_of l)
+    true_all : (width : ℕ) (l : Lit) → IsTrue (literal_fits (signature_of p) width l) → IsTrue (list_all replaces_term (terms_of l)) → Agree width others places → AllByRecursion (Takes after others) (terms_of l)
         → is_true s places (replaced (signature_of p) value l) ≡ is_true after others l
     true_all width (FinIn t mask) fits can agree takes =
         let k = finite_sort width t mask fits in
-        side_in_true s places (finite_side (value t)) mask ∙ ap (has_bit mask) (finite_is_at t k.0 k.1 (and_left (Replaces t) true can) takes.0)
+        side_in_true s places (finite_side (value t)) mask ∙ ap (has_bit mask) (finite_is_at t k.0 k.1 (and_left (replaces_term t) true can) takes.0)
     true_all width (FinEq a b) fits can agree takes = equal_true width a b fits can takes
     true_all width (FinNe a b) fits can agree takes =
-        negated_true p s places (sides_equal (finite_side (value a)) (finite_side (value b))) state distinct (finite_both_fit width a b fits can) ∙ ap not (equal_true width a b fits can takes)
+        negated_is p s places state (processes_within s places distinct) (sides_equal (finite_side (value a)) (finite_side (value b))) (finite_both_fit width a b fits can) ∙ ap not (equal_true width a b fits can takes)
     true_all width (ProcEq a b) fits can agree takes = processes_same width a b fits can agree takes
     true_all width (ProcNe a b) fits can agree takes = ap not (processes_same width a b fits can agree takes)
     true_all width (Diff a b bound) fits can agree takes =
-        let parts = split_all Replaces (integer_side_terms a) (integer_side_terms b) can in
+        let parts = split_all replaces_term (integer_side_terms a) (integer_side_terms b) can in
         let each = split_each (Takes after others) (integer_side_terms a) (integer_side_terms b) takes in
         moved (integer_at s places (replaced_base value a)) (integer_at s places (replaced_base value b)) (replaced_added value a) (replaced_added value b) (integer_at after others a) (integer_at after others b) bound
             (replaced_integer_is after others width a (and_left (integer_side_fits (signature_of p) width a) (integer_side_fits (signature_of p) width b) fits) parts.0 each.0)
@@ -365,7 +347,7 @@ module _ (p : Protocol) (s : Configuration) (places : List ℕ) (value : Term �
 
     pub replaced_true : (width : ℕ) (l : Lit) → IsTrue (literal_fits (signature_of p) width l) → IsTrue (can_replace_all (signature_of p) (length places) value l) → Agree width others places → TakesValues s places after others value l
         → is_true s places (replaced (signature_of p) value l) ≡ is_true after others l
-    unfolding Replaces Takes
+    unfolding replaces_term Takes
     replaced_true width l fits can agree takes =
         true_all width l fits can agree (recursion_from_All (λ t. term_value after others t ≡ meaning_of s places (value t) (term_value s places t)) (terms_of l) takes)
 

@@ -150,3 +150,13 @@ pub terms_more : (lits : List Lit) (i : ℕ) (d : Lit) → i < length lits → f
 terms_more lits i d h =
     sym (ap terms_in (take_more lits i d h) ∙ ap (fold with_term []) (flat_map-append terms_of (take i lits) (get_or lits i d ∷ []) ∙ ap (λ xs. flat_map terms_of (take i lits) ++ xs) (append-nil (terms_of (get_or lits i d))))
         ∙ fold-append with_term [] (flat_map terms_of (take i lits)) (terms_of (get_or lits i d)))
+
+less_case : (o : Ordering) → (o ≡ Greater → ⊥) → (o ≡ Equal → ⊥) → o ≡ Less
+less_case Less h k = refl
+less_case Equal h k = absurd (k refl)
+less_case Greater h k = absurd (h refl)
+
+pub term_absent : (us : List Term) (t : Term) (n : ℕ) → n ≤ length us → ((k : ℕ) → k < n → term_cmp t (get_or us k t) ≡ Greater)
+    → (n < length us → term_cmp t (get_or us n t) ≡ Greater → ⊥) → (n < length us → get_or us n t ≡ t → ⊥) → take n us ++ t ∷ drop n us ≡ with_term us t
+term_absent us t n within before at other =
+    term_inserted us t n within before (λ h. less_case (term_cmp t (get_or us n t)) (at h) (λ e. other h (sym (terms_equal t (get_or us n t) e))))

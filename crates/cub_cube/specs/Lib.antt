@@ -6,3 +6,5 @@ pub mod Meaning
 pub mod Kept
 pub mod Cover
 pub mod Inductive
+pub mod Crashes
+pub mod Step

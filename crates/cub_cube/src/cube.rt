@@ -1,8 +1,10 @@
 //! The type of cubes.
 
-ghost use Rattle.std.specs.Prelude.{◌≡◌, IfOk};
+ghost use Rattle.std.specs.Prelude.{◌≡◌, length, IsTrue, IfOk};
+ghost use Rattle.std.specs.List.{list_all};
 ghost use Rattle.cub_proto.specs.StateOf.{signature_of};
 ghost use Rattle.cub_cube.specs.Normal.{normal_form};
+ghost use Rattle.cub_cube.specs.Rename.{is_within, renamed_all};
 
 use crate::normal;
 use cub_base::{Items, Memory};
@@ -33,6 +35,15 @@ impl Cube {
     {
         let lits = self.lits.copy()?;
         let width = self.width;
+        Ok(Cube { width, lits })
+    }
+    /// The cube at the places of a renaming, as one of that width and in normal form. Item `p` of `places` is the new
+    /// place for place `p`.
+    pub fn renamed(&self, protocol: &Protocol, width: u8, places: &[u8]) -> Result<Cube, Memory>
+        requires { IsTrue (list_all (is_within (length places.now)) self.now.lits) }
+        ensures { IfOk result (λ c. c ≡ record { width = width; lits = normal_form (signature_of protocol.now) (renamed_all places.now self.now.lits) }) }
+    {
+        let lits = normal::renamed_form(self.lits.allocator(), protocol, places, self.lits.as_slice())?;
         Ok(Cube { width, lits })
     }
 }

@@ -1,28 +1,32 @@
 //! Laws of cubes: each is the contract of a call that does nothing, and holds of all protocols, states and cubes.
 
-ghost use Rattle.std.specs.Prelude.{◌≡◌, ◌≤◌, ℕ, List, length, ◌↔◌, IsTrue, Contains};
+ghost use Rattle.std.specs.Prelude.{◌≡◌, ◌≤◌, ◌<◌, ℕ, Bool, All, Option, List, length, ◌↔◌, IsTrue, Contains};
 ghost use Rattle.std.specs.List.{list_all};
 ghost use Rattle.cub_proto.specs.declared.literal.Lit.{Lit};
 ghost use Rattle.cub_proto.specs.declared.literal.Term.{Term};
 ghost use Rattle.cub_proto.specs.declared.literal.Value.{Value};
+ghost use Rattle.cub_proto.specs.declared.transition.Update.{Update};
+ghost use Rattle.cub_proto.specs.declared.state.Slot.{Slot};
 ghost use Rattle.cub_proto.specs.declared.state.Val.{Val};
 ghost use Rattle.cub_proto.specs.declared.protocol.Protocol.{Protocol};
-ghost use Rattle.cub_proto.specs.Configuration.{Configuration};
+ghost use Rattle.cub_proto.specs.Configuration.{Configuration, process_count, IsAlive};
 ghost use Rattle.cub_proto.specs.Signature.{Signature};
 ghost use Rattle.cub_proto.specs.Fits.{literal_fits};
-ghost use Rattle.cub_proto.specs.Truth.{is_true, all_true};
-ghost use Rattle.cub_proto.specs.Effect.{meaning_of};
+ghost use Rattle.cub_proto.specs.Truth.{is_true, all_true, term_value, HasTerm};
+ghost use Rattle.cub_proto.specs.Effect.{meaning_of, fired};
 ghost use Rattle.cub_proto.specs.StateOf.{IsStateOf, signature_of};
-ghost use Rattle.cub_proto.specs.Legal.{IsStart, AreDistinctAlive};
+ghost use Rattle.cub_proto.specs.Legal.{AreDistinctAlive, AreLegal, after_all};
 ghost use Rattle.cub_proto.specs.Meets.{Satisfies, Meets, IsSafe};
 ghost use Rattle.cub_cube.specs.Normal.{normal_form, is_normal};
 ghost use Rattle.cub_cube.specs.Rename.{renamed_all, renamed_value, along, is_within, value_within, IsInjection, Agree};
 ghost use Rattle.cub_cube.specs.Meaning.{IsConsistent, AreAtPlaces, SameMeaning, SameMeaningAlong};
 ghost use Rattle.cub_cube.specs.Replace.{replaced, can_replace_all, TakesValues};
+ghost use Rattle.cub_cube.specs.Step.{value_after};
 ghost use Rattle.cub_cube.specs.Mentions.{terms_in, terms_rise, Mentions};
 ghost use Rattle.cub_cube.specs.Kept.{Keeps};
 ghost use Rattle.cub_cube.specs.Cover.{Covers, DoesCover, CoversLeast};
 ghost use Rattle.cub_cube.specs.Inductive.{IsInductive};
+ghost use Rattle.cub_cube.specs.Crashes.{crashes, spare, IsCrashed};
 ghost use Rattle.cub_cube.specs.declared.cube.Cube.{Cube};
 
 /// The normal form of fitting literals has their meaning.
@@ -133,5 +137,62 @@ pub fn replaced_fits()
 pub fn terms_in_are_mentioned()
     ensures order { (lits : List Lit) → IsTrue (terms_rise (terms_in lits)) }
     ensures members { (lits : List Lit) (t : Term) → Contains (terms_in lits) t ↔ Mentions lits t }
+{
+}
+
+/// A protocol with an inductive list of cubes is safe.
+pub fn inductive_is_safe()
+    ensures { (p : Protocol) (cubes : List Cube) → IsInductive p cubes → IsSafe p }
+{
+}
+
+/// Crashes change no value: after the crashes of any processes the state is the same but for who is alive, and who
+/// satisfies a conjunction then did so before.
+pub fn crashes_change_no_value()
+    ensures crashed { (p : Protocol) (s : Configuration) (processes : List ℕ) → IsCrashed s (after_all p s (crashes processes)) }
+    ensures before { (s after : Configuration) (places : List ℕ) (width : ℕ) (lits : List Lit) → IsCrashed s after
+        → Satisfies after places width lits → Satisfies s places width lits }
+    ensures behind { (s after : Configuration) (places : List ℕ) (width : ℕ) (lits : List Lit) → IsCrashed s after → All (IsAlive after) places
+        → Satisfies s places width lits → Satisfies after places width lits }
+{
+}
+
+/// All processes but those that are kept can crash, one after another; those that are kept stay alive.
+pub fn all_others_can_crash()
+    ensures legal { (p : Protocol) (s : Configuration) (keep : ℕ → Bool) → AreLegal p s (crashes (spare keep s (process_count s))) }
+    ensures left { (p : Protocol) (s : Configuration) (keep : ℕ → Bool) (i : ℕ)
+        → IsAlive (after_all p s (crashes (spare keep s (process_count s)))) i ↔ (IsAlive s i × IsTrue (keep i)) }
+{
+}
+
+/// Places that agree below the width make a conjunction of that width true alike.
+pub fn agreeing_places_are_alike()
+    ensures { (s : Configuration) (width : ℕ) (places others : List ℕ) (lits : List Lit) → IsTrue (list_all (is_within width) lits)
+        → Agree width places others → all_true s places lits ≡ all_true s others lits }
+{
+}
+
+/// What fits has its places below the width, and what is renamed fits the width of the big thing.
+pub fn renamed_fits()
+    ensures within { (sig : Signature) (width : ℕ) (lits : List Lit) → IsTrue (list_all (literal_fits sig width) lits)
+        → IsTrue (list_all (is_within width) lits) }
+    ensures fits { (sig : Signature) (width : ℕ) (r : List ℕ) (lits : List Lit) → All (λ p. p < width) r
+        → IsTrue (list_all (literal_fits sig (length r)) lits) → IsTrue (list_all (literal_fits sig width) (renamed_all r lits)) }
+{
+}
+
+/// A renamed cube is satisfied exactly at the composed places.
+pub fn renamed_cube_is_at_composed_places()
+    ensures { (p : Protocol) (width : ℕ) (r : List ℕ) (lits : List Lit) → All (λ q. q < width) r
+        → IsTrue (list_all (literal_fits (signature_of p) (length r)) lits) → (s : Configuration) (places : List ℕ) → AreAtPlaces p s places width
+        → all_true s places (normal_form (signature_of p) (renamed_all r lits)) ≡ all_true s (along r places) lits }
+{
+}
+
+/// After a step a term at alive processes has the value of its update, read in the state before.
+pub fn fired_updates_terms()
+    ensures { (s : Configuration) (params : List ℕ) (updates : List Update) (pick : Slot → Option Val) (places : List ℕ) (t : Term)
+        → HasTerm s places t → AreDistinctAlive s places
+        → term_value (fired s params updates pick) places t ≡ value_after s params updates pick places t }
 {
 }

@@ -1,6 +1,6 @@
 //! The terms that literals mention, in order. The list is short, so a new term's place is found by going through it.
 
-ghost use Rattle.std.specs.Prelude.{◌≡◌, ◌≢◌, ℕ, ◌<◌, ◌≤◌, length, slice_index_or, fold, IfOk, OnOk};
+ghost use Rattle.std.specs.Prelude.{◌≡◌, ◌≢◌, ℕ, ◌<◌, ◌≤◌, length, slice_index_or, fold, false, IsTrue, IfOk, OnOk};
 ghost use Rattle.cub_proto.specs.Order.{term_cmp};
 ghost use Rattle.cub_cube.specs.Mentions.{process_side_terms, integer_side_terms, terms_of, with_term, terms_in};
 
@@ -22,11 +22,19 @@ fn place_of(terms: &[Term], term: Term) -> usize
     terms.len()
 }
 
+fn stands_at(terms: &[Term], place: usize, term: Term) -> bool
+    ensures there { IsTrue result → place < length terms.now }
+    ensures same { IsTrue result → slice_index_or terms.now place term ≡ term }
+    ensures other { result ≡ false → place < length terms.now → slice_index_or terms.now place term ≢ term }
+{
+    place < terms.len() && terms[place] == term
+}
+
 fn add_term(terms: &mut Vec<Term>, term: Term) -> Result<(), AllocError>
     ensures { OnOk result (terms.new.items ≡ with_term terms.old.items term) }
 {
     let place = place_of(terms.as_slice(), term);
-    if place < terms.len() && terms[place] == term {
+    if stands_at(terms.as_slice(), place, term) {
         return Ok(());
     }
     terms.insert(place, term)?;

@@ -4,39 +4,18 @@
 //! at most one move for each pair of its literals, which are few.
 
 ghost use Rattle.std.specs.Prelude.{◌≡◌, ◌≢◌, ◌-◌, ◌<◌, ◌≤◌, drop, slice_index_or, slice_get, length, option_map, false, IsTrue, IfOk, OnOk, All};
-ghost use Rattle.cub_proto.specs.Signature.{constructors_at};
+ghost use Rattle.std.specs.List.{list_all};
+ghost use Rattle.std.specs.Ordering.{is_lt};
 ghost use Rattle.cub_proto.specs.StateOf.{signature_of};
 ghost use Rattle.cub_proto.specs.Order.{lit_cmp, term_cmp, process_side_cmp, integer_side_cmp};
-ghost use Rattle.cub_cube.specs.Normal.{ordered, full_mask, is_true_alone, subject, subject_cmp, joined, inserted, placed, normal_form, subjects_rise, are_two_places, mask_of, bound_of};
+ghost use Rattle.cub_cube.specs.Normal.{ordered, full_mask, is_true_alone, subject, subject_cmp, joined, inserted, placed, normal_form, subjects_rise, are_two_places, mask_of, bound_of, has_ordered_sides, is_plain, is_normal};
+ghost use Rattle.cub_cube.specs.Rename.{is_within, renamed_all};
 
+use crate::renaming::renamed;
 use cub_base::{Items, Memory};
-use cub_proto::{Declared, Lit, Lits, PSide, Protocol, Term};
+use cub_proto::{Lit, Lits, PSide, Protocol};
 use std::alloc::{AllocError, Global};
 use std::cmp::Ordering;
-
-fn constructors_at(protocol: &Protocol, term: Term) -> usize
-    ensures value { result ≡ constructors_at (signature_of protocol.now) term }
-    ensures few { result ≤ 64 }
-{
-    let declared = Declared::new(
-        protocol.sorts.as_slice(),
-        protocol.globals.as_slice(),
-        protocol.arrays.as_slice(),
-    );
-    declared.constructors_at(term)
-}
-
-/// The mask of all constructors of a term's sort; 0 where the sort is not finite.
-pub fn full_mask(protocol: &Protocol, term: Term) -> u64
-    ensures { result ≡ full_mask (signature_of protocol.now) term }
-{
-    let count = constructors_at(protocol, term);
-    if count == 64 {
-        u64::MAX
-    } else {
-        (1 << count) - 1
-    }
-}
 
 /// The literal with the smaller side of an equality first.
 pub fn ordered(lit: &Lit) -> Lit
@@ -75,7 +54,7 @@ pub fn is_true_alone(protocol: &Protocol, lit: &Lit) -> bool
     ensures { result ≡ is_true_alone (signature_of protocol.now) lit.now }
 {
     match *lit {
-        Lit::FinIn { term, mask } => mask == full_mask(protocol, term),
+        Lit::FinIn { term, mask } => mask == cub_proto::full_mask(protocol, term),
         Lit::FinEq { a, b } => cub_proto::compare_terms(a, b) == Ordering::Equal,
         Lit::FinNe { .. } => false,
         Lit::ProcEq { a, b } => cub_proto::compare_process_sides(a, b) == Ordering::Equal,
@@ -193,4 +172,56 @@ pub fn normal_form(alloc: Global, protocol: &Protocol, lits: &[Lit]) -> Result<L
         place(protocol, &mut form, lit)?;
     }
     Ok(Items::from_vec(form))
+}
+
+/// The normal form of a conjunction at the places of a renaming.
+pub fn renamed_form(alloc: Global, protocol: &Protocol, places: &[u8], lits: &[Lit]) -> Result<Lits, Memory>
+    requires { IsTrue (list_all (is_within (length places.now)) lits.now) }
+    ensures { IfOk result (λ form. form ≡ normal_form (signature_of protocol.now) (renamed_all places.now lits.now)) }
+{
+    let mut form = Vec::with_capacity(alloc, lits.len())?;
+    for lit in lits {
+        place(protocol, &mut form, &renamed(places, lit))?;
+    }
+    Ok(Items::from_vec(form))
+}
+
+fn has_ordered_sides(lit: &Lit) -> bool
+    ensures { result ≡ has_ordered_sides lit.now }
+{
+    match *lit {
+        Lit::FinEq { a, b } | Lit::FinNe { a, b } => cub_proto::compare_terms(a, b) != Ordering::Greater,
+        Lit::ProcEq { a, b } | Lit::ProcNe { a, b } => cub_proto::compare_process_sides(a, b) != Ordering::Greater,
+        Lit::FinIn { .. } | Lit::Diff { .. } => true,
+    }
+}
+
+fn is_plain(protocol: &Protocol, lit: &Lit) -> bool
+    ensures { result ≡ is_plain (signature_of protocol.now) lit.now }
+{
+    has_ordered_sides(lit) && !is_true_alone(protocol, lit)
+}
+
+fn is_below(lit: &Lit, other: &Lit) -> bool
+    ensures { result ≡ is_lt (subject_cmp lit.now other.now) }
+{
+    compare_subjects(lit, other) == Ordering::Less
+}
+
+fn subjects_rise(lits: &[Lit]) -> bool
+    ensures { result ≡ subjects_rise lits.now }
+{
+    for at in 1..lits.len() {
+        if !is_below(&lits[at - 1], &lits[at]) {
+            return false;
+        }
+    }
+    true
+}
+
+/// Whether the literals are a normal form: then it is theirs.
+pub fn is_normal(protocol: &Protocol, lits: &[Lit]) -> bool
+    ensures { result ≡ is_normal (signature_of protocol.now) lits.now }
+{
+    lits.iter().all(|lit| is_plain(protocol, lit)) && subjects_rise(lits)
 }
