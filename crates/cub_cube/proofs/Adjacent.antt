@@ -62,3 +62,16 @@ before_step lits i d e some h =
     let same : suc (i - 1) ≡ i = omega arith in
     let step = neighbours_step lits (i - 1) d e (omega arith) in
     subst (λ j. neighbours_rise (drop (i - 1) lits) ≡ (is_lt (subject_cmp (get_or lits (i - 1) d) (get_or lits j e)) && neighbours_rise (drop j lits))) same step
+
+pub falls_at : (lits : List Lit) (i : ℕ) (d e : Lit) (b : Bool) → 1 ≤ i → i < length lits → neighbours_rise (drop (i - 1) lits) ≡ neighbours_rise lits
+    → b ≡ is_lt (subject_cmp (get_or lits (i - 1) d) (get_or lits i e)) → b ≡ false → false ≡ subjects_rise lits
+falls_at lits i d e b some within so_far is fails =
+    sym (sym (neighbours_suffice lits) ∙ sym so_far ∙ before_step lits i d e some within ∙ ap (λ x. x && neighbours_rise (drop i lits)) (sym is ∙ fails))
+
+pub rises_next : (lits : List Lit) (i : ℕ) (d e : Lit) (b : Bool) → 1 ≤ i → i < length lits → neighbours_rise (drop (i - 1) lits) ≡ neighbours_rise lits
+    → b ≡ is_lt (subject_cmp (get_or lits (i - 1) d) (get_or lits i e)) → b ≡ true → neighbours_rise (drop i lits) ≡ neighbours_rise lits
+rises_next lits i d e b some within so_far is holds =
+    sym (before_step lits i d e some within ∙ ap (λ x. x && neighbours_rise (drop i lits)) (sym is ∙ holds)) ∙ so_far
+
+pub rises_all : (lits : List Lit) (i : ℕ) → length lits ≤ i → neighbours_rise (drop (i - 1) lits) ≡ neighbours_rise lits → true ≡ subjects_rise lits
+rises_all lits i past so_far = sym (sym (neighbours_suffice lits) ∙ sym so_far ∙ neighbours_end lits (i - 1) (omega arith))

@@ -219,9 +219,15 @@ fn subjects_rise(lits: &[Lit]) -> bool
     true
 }
 
+fn are_plain(protocol: &Protocol, lits: &[Lit]) -> bool
+    ensures { result ≡ list_all (is_plain (signature_of protocol.now)) lits.now }
+{
+    lits.iter().all(|lit| is_plain(protocol, lit))
+}
+
 /// Whether the literals are a normal form: then it is theirs.
 pub fn is_normal(protocol: &Protocol, lits: &[Lit]) -> bool
     ensures { result ≡ is_normal (signature_of protocol.now) lits.now }
 {
-    lits.iter().all(|lit| is_plain(protocol, lit)) && subjects_rise(lits)
+    are_plain(protocol, lits) && subjects_rise(lits)
 }

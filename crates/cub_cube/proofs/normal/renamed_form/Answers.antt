@@ -1,4 +1,6 @@
 use Rattle.std.proofs.Common.{◌≡◌, ◌<◌, ◌∙◌, [], length, get_or, IsTrue, sym, ap, subst, arith}
+use Rattle.std.specs.Prelude.{fold}
+use Rattle.std.proofs.lemmas.List.{take_all}
 use Rattle.std.proofs.lemmas.List.Sums.{fold_more}
 use Rattle.std.proofs.lemmas.List.Folds.{fold-map}
 use Rattle.cub_proto.specs.declared.literal.Term.TheVariants as Term
@@ -30,4 +32,7 @@ loop-lit-preserved c =
     }
 
 pub returns : goal.returns
-returns c = ?
+returns c =
+    c.from_vec.ensures ∙ c.loop-lit.invariant.so_far
+    ∙ ap (fold (λ form l. placed (signature_of c.args.protocol.now) form (renamed c.args.places.now l)) []) (take_all c.loop-lit.lit-index c.args.lits.now (omega arith))
+    ∙ sym (fold-map (placed (signature_of c.args.protocol.now)) (renamed c.args.places.now) [] c.args.lits.now)
