@@ -1,11 +1,11 @@
 -- A list rises where each literal comes before the next.
-use Rattle.std.proofs.Common.{◌≡◌, ℕ, zero, suc, ◌+◌, ◌-◌, ◌<◌, ◌≤◌, Bool, true, false, List, [], ◌∷◌, length, get_or, drop, refl, sym, ap, ◌∙◌, subst, arith}
+use Rattle.std.proofs.Common.{◌≡◌, ℕ, zero, suc, ◌-◌, ◌<◌, ◌≤◌, Bool, true, false, List, [], ◌∷◌, length, get_or, drop, refl, sym, ap, ◌∙◌, subst, arith}
 use Rattle.std.specs.Prelude.{◌&&◌, IsTrue}
 use Rattle.std.specs.List.{list_all}
 use Rattle.std.specs.Ordering.{is_lt}
 use Rattle.cub_proto.specs.declared.literal.Lit.{Lit}
 use Rattle.cub_cube.specs.Normal.{subject_cmp, subjects_rise}
-use Rattle.cub_cube.proofs.Bools.{and_left, and_right, and_both, true_or_false}
+use Rattle.cub_cube.proofs.Bools.{and_left, and_right, and_both}
 use Rattle.cub_cube.proofs.Form.{below_all, below_less}
 
 abbrev pub neighbours_rise : List Lit → Bool
@@ -20,17 +20,17 @@ rises_from (l ∷ m ∷ ms) h =
     let first = and_left (is_lt (subject_cmp l m)) (neighbours_rise (m ∷ ms)) h in
     let rest = rises_from (m ∷ ms) (and_right (is_lt (subject_cmp l m)) (neighbours_rise (m ∷ ms)) h) in
     and_both (list_all (λ x. is_lt (subject_cmp l x)) (m ∷ ms)) (subjects_rise (m ∷ ms))
-        (and_both (is_lt (subject_cmp l m)) (list_all (λ x. is_lt (subject_cmp l x)) ms) first
-            (below_all l m ms (below_less l m first) (and_left (list_all (λ x. is_lt (subject_cmp m x)) ms) (subjects_rise ms) rest)))
-        rest
+    (and_both (is_lt (subject_cmp l m)) (list_all (λ x. is_lt (subject_cmp l x)) ms) first
+    (below_all l m ms (below_less l m first) (and_left (list_all (λ x. is_lt (subject_cmp m x)) ms) (subjects_rise ms) rest)))
+    rest
 
 neighbours_from : (lits : List Lit) → IsTrue (subjects_rise lits) → IsTrue (neighbours_rise lits)
 neighbours_from [] h = refl
 neighbours_from (l ∷ []) h = refl
 neighbours_from (l ∷ m ∷ ms) h =
     and_both (is_lt (subject_cmp l m)) (neighbours_rise (m ∷ ms))
-        (and_left (is_lt (subject_cmp l m)) (list_all (λ x. is_lt (subject_cmp l x)) ms) (and_left (list_all (λ x. is_lt (subject_cmp l x)) (m ∷ ms)) (subjects_rise (m ∷ ms)) h))
-        (neighbours_from (m ∷ ms) (and_right (list_all (λ x. is_lt (subject_cmp l x)) (m ∷ ms)) (subjects_rise (m ∷ ms)) h))
+    (and_left (is_lt (subject_cmp l m)) (list_all (λ x. is_lt (subject_cmp l x)) ms) (and_left (list_all (λ x. is_lt (subject_cmp l x)) (m ∷ ms)) (subjects_rise (m ∷ ms)) h))
+    (neighbours_from (m ∷ ms) (and_right (list_all (λ x. is_lt (subject_cmp l x)) (m ∷ ms)) (subjects_rise (m ∷ ms)) h))
 
 same_tests : (a b : Bool) → (IsTrue a → IsTrue b) → (IsTrue b → IsTrue a) → a ≡ b
 same_tests true b f g = sym (f refl)

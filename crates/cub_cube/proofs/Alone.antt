@@ -1,23 +1,18 @@
 -- A literal that is true by itself is true at every state of the protocol, at processes that are distinct.
-use Rattle.std.proofs.Common.{◌≡◌, ℕ, ◌<◌, ◌^◌, ◌-◌, ℤ, pos, Bool, true, false, List, length, refl, sym, ap, ◌∙◌, subst, arith}
+use Rattle.std.proofs.Common.{◌≡◌, ℕ, ◌<◌, ◌^◌, ◌-◌, ℤ, pos, true, List, length, refl, sym, ap, ◌∙◌, arith}
 use Rattle.std.specs.Prelude.{◌&&◌, ◌==◌, not, IsTrue, nat_lt, slice_index, int_le, ◌-ℤ◌}
-use Rattle.std.specs.Int.{bit_at}
 use Rattle.std.specs.Ordering.{is_eq}
 use Rattle.std.specs.declared.cmp.Ordering.{Ordering}
 use Rattle.std.specs.declared.cmp.Ordering.TheVariants.{Less, Equal, Greater}
 use Rattle.std.proofs.lemmas.Nat.Bits.{bit_at_ones}
 use Rattle.std.proofs.lemmas.Bool.Decides.{nat_tests}
-use Rattle.std.proofs.lemmas.Grind.{common_steps}
 use Rattle.std.proofs.lemmas.Int.{ints}
-use Rattle.cub_proto.specs.declared.literal.Term.{Term}
 use Rattle.cub_proto.specs.declared.literal.PSide.{PSide}
-use Rattle.cub_proto.specs.declared.literal.PSide.TheVariants as PSide
-use Rattle.cub_proto.specs.declared.literal.ISide.{ISide}
 use Rattle.cub_proto.specs.declared.literal.Lit.{Lit}
 use Rattle.cub_proto.specs.declared.literal.Lit.TheVariants.{FinIn, FinEq, FinNe, ProcEq, ProcNe, Diff}
 use Rattle.cub_proto.specs.declared.protocol.Protocol.{Protocol}
 use Rattle.cub_proto.specs.Configuration.{Configuration}
-use Rattle.cub_proto.specs.Signature.{Signature, sort_of, constructors_at}
+use Rattle.cub_proto.specs.Signature.{sort_of, constructors_at}
 use Rattle.cub_proto.specs.StateOf.{IsStateOf, signature_of}
 use Rattle.cub_proto.specs.Fits.{literal_fits, is_finite, place_fits, process_side_fits}
 use Rattle.cub_proto.specs.Truth.{is_true, has_bit, constructor_at, process_at, integer_at}

@@ -1,6 +1,6 @@
 -- Covering is reflexive and transitive, its least injection is one, and it goes along with renamings that keep the meaning.
-use Rattle.std.proofs.Common.{◌≡◌, ◌⊎◌, ℕ, suc, zero, ◌<◌, ◌≤◌, Bool, true, false, List, [], ◌∷◌, length, get_or, refl, sym, ap, ◌∙◌, subst, arith, inl, inr}
-use Rattle.std.specs.Prelude.{IsTrue, ◌&&◌, ◌||◌, ◌==◌, nat_lt, Contains, All}
+use Rattle.std.proofs.Common.{◌≡◌, ◌⊎◌, ℕ, ◌<◌, ◌≤◌, List, [], ◌∷◌, length, get_or, refl, sym, ap, ◌∙◌, subst, arith, inl, inr}
+use Rattle.std.specs.Prelude.{IsTrue, ◌&&◌, ◌==◌, nat_lt, All}
 use Rattle.std.proofs.lemmas.Bool.{cases_lt}
 use Rattle.cub_proto.specs.declared.literal.Lit.{Lit}
 use Rattle.cub_proto.specs.declared.protocol.Protocol.{Protocol}
@@ -11,8 +11,8 @@ use Rattle.cub_proto.specs.Meets.{Satisfies, Meets}
 use Rattle.cub_cube.specs.declared.cube.Cube.{Cube}
 use Rattle.cub_cube.specs.Rename.{along, IsInjection}
 use Rattle.cub_cube.specs.Meaning.{AreAtPlaces, SameMeaningAlong}
-use Rattle.cub_cube.specs.Cover.{Covers, DoesCover, IsCovered, CoversLeast, precedes}
-use Rattle.cub_cube.proofs.Bools.{less_is, is_less, same_refl, and_both, or_intro_left, or_intro_right}
+use Rattle.cub_cube.specs.Cover.{Covers, CoversLeast, precedes}
+use Rattle.cub_cube.proofs.Bools.{is_less, same_refl, and_both, or_intro_left, or_intro_right}
 use Rattle.cub_cube.proofs.Renames.{along-along, length-along}
 use Rattle.cub_cube.proofs.Placing.{identity, identity_injection, along-identity, composed_injection, along_satisfies, along_processes, inverse, inverse_injection, length-inverse, along-along-inverse}
 

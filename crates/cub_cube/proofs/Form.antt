@@ -1,6 +1,6 @@
 -- The normal form: its meaning, its order, and that it is its own normal form.
 use Rattle.std.proofs.Common.{◌≡◌, ℕ, ◌+◌, ◌<◌, ◌≤◌, ◌^◌, ◌-◌, ℤ, pos, Bool, true, false, cond, List, [], ◌∷◌, ◌++◌, length, refl, sym, ap, ◌∙◌, subst, arith, zero, suc, Option, Some, None, get_or, set, take, drop}
-use Rattle.std.specs.Prelude.{◌&&◌, ◌==◌, not, IsTrue, fold, All, bit_and, nat_lt, int_le}
+use Rattle.std.specs.Prelude.{◌&&◌, ◌==◌, not, IsTrue, fold, bit_and, nat_lt, int_le}
 use Rattle.std.specs.List.{list_all, AllByRecursion as ByRecursion}
 use Rattle.std.proofs.lemmas.List.{append-nil, append_assoc}
 use Rattle.std.specs.Int.{int_min}
@@ -9,10 +9,8 @@ use Rattle.std.specs.Ordering.{is_lt, is_gt, is_eq, match_ordering, ordering_rev
 use Rattle.std.specs.declared.cmp.Ordering.{Ordering}
 use Rattle.std.specs.declared.cmp.Ordering.TheVariants.{Less, Equal, Greater}
 use Rattle.cub_proto.specs.declared.literal.Sort.{Sort}
-use Rattle.cub_proto.specs.declared.literal.Sort.TheVariants as Sort
 use Rattle.cub_proto.specs.declared.literal.Term.{Term}
 use Rattle.cub_proto.specs.declared.literal.PSide.{PSide}
-use Rattle.cub_proto.specs.declared.literal.PSide.TheVariants as PSide
 use Rattle.cub_proto.specs.declared.literal.Lit.{Lit}
 use Rattle.cub_proto.specs.declared.literal.Lit.TheVariants.{FinIn, FinEq, FinNe, ProcEq, ProcNe, Diff}
 use Rattle.cub_proto.specs.declared.protocol.Protocol.{Protocol}

@@ -1,5 +1,5 @@
 -- Membership by recursion, and through the words that make lists.
-use Rattle.std.proofs.Common.{◌≡◌, ◌⊎◌, ℕ, suc, zero, ◌+◌, ◌<◌, List, [], ◌∷◌, ◌++◌, length, get_or, refl, sym, ap, ◌∙◌, subst, arith, inl, inr}
+use Rattle.std.proofs.Common.{◌≡◌, ◌⊎◌, ℕ, suc, zero, ◌+◌, ◌<◌, List, [], ◌∷◌, ◌++◌, get_or, refl, sym, ap, ◌∙◌, subst, arith, inl, inr}
 use Rattle.std.specs.Prelude.{Contains, map, All, AllPairs, ◌≢◌}
 use Rattle.std.specs.List.{flat_map, range_with_len}
 use Rattle.std.proofs.lemmas.List.{get_or_default}
@@ -33,9 +33,9 @@ has_cases [] ys x h = inr h
 has_cases (y ∷ xs) ys x (inl same) = inl (inl same)
 has_cases (y ∷ xs) ys x (inr later) = by (has_cases xs ys x later)
   where
-  by : Has xs x ⊎ Has ys x → Has (y ∷ xs) x ⊎ Has ys x
-  by (inl h) = inl (inr h)
-  by (inr h) = inr h
+    by : Has xs x ⊎ Has ys x → Has (y ∷ xs) x ⊎ Has ys x
+    by (inl h) = inl (inr h)
+    by (inr h) = inr h
 
 pub has_map : {A B : Type 0} (f : A → B) (xs : List A) (x : A) → Has xs x → Has (map f xs) (f x)
 has_map f [] x h = absurd h
@@ -56,9 +56,9 @@ pub flat_map_has : {A B : Type 0} (f : A → List B) (xs : List A) (b : B) → H
 flat_map_has f [] b h = absurd h
 flat_map_has {A} f (y ∷ xs) b h = by (has_cases (f y) (flat_map f xs) b h) (flat_map_has f xs b)
   where
-  by : Has (f y) b ⊎ Has (flat_map f xs) b → (Has (flat_map f xs) b → (x : A) × Has xs x × Has (f x) b) → (x : A) × Has (y ∷ xs) x × Has (f x) b
-  by (inl here) rest = (y, inl refl, here)
-  by (inr later) rest = let found = rest later in (found.0, inr found.1, found.2)
+    by : Has (f y) b ⊎ Has (flat_map f xs) b → (Has (flat_map f xs) b → (x : A) × Has xs x × Has (f x) b) → (x : A) × Has (y ∷ xs) x × Has (f x) b
+    by (inl here) rest = (y, inl refl, here)
+    by (inr later) rest = let found = rest later in (found.0, inr found.1, found.2)
 
 pub has_range : (from n i : ℕ) → i < n → Has (range_with_len from n) (from + i)
 has_range from zero i h = absurd (omega arith)
@@ -79,8 +79,8 @@ distinct_pairs (x ∷ xs) h (suc i) (suc j) d order below = distinct_pairs xs h.
 pub pairs_distinct : {A : Type 0} (xs : List A) → AllPairs (λ x y. x ≢ y) xs → Distinct xs
 pairs_distinct [] h = tt
 pairs_distinct (x ∷ xs) h = (
-    λ later. let found = has_Contains xs x later in h 0 (suc found.0) x (omega arith) (omega (arith, found.1)) (sym found.2),
-    pairs_distinct xs (λ i j d order below. h (suc i) (suc j) d (omega arith) (omega arith))
+  λ later. let found = has_Contains xs x later in h 0 (suc found.0) x (omega arith) (omega (arith, found.1)) (sym found.2),
+  pairs_distinct xs (λ i j d order below. h (suc i) (suc j) d (omega arith) (omega arith)),
 )
 
 -- what holds of each item

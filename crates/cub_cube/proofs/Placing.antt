@@ -1,8 +1,8 @@
 -- Injections of places: identity, composition, inverse; distinct alive processes at composed places.
-use Rattle.std.proofs.Common.{◌≡◌, ◌≢◌, ◌⊎◌, ℕ, suc, zero, ◌+◌, ◌<◌, ◌≤◌, Bool, true, false, List, [], ◌∷◌, length, get_or, refl, sym, ap, ◌∙◌, subst, arith, eqb, inl, inr}
-use Rattle.std.specs.Prelude.{IsTrue, if◌then◌else◌, slice_index, All, AllPairs, map, ◌||◌, ◌==◌}
+use Rattle.std.proofs.Common.{◌≡◌, ◌≢◌, ◌⊎◌, ℕ, suc, ◌<◌, ◌≤◌, Bool, true, false, List, [], ◌∷◌, length, get_or, refl, sym, ap, ◌∙◌, subst, arith, eqb, inl, inr}
+use Rattle.std.specs.Prelude.{IsTrue, if◌then◌else◌, slice_index, All, AllPairs, map, ◌||◌}
 use Rattle.std.specs.List.{list_any, IsDistinct, AllByRecursion, range_with_len}
-use Rattle.std.proofs.lemmas.List.{get_or_default, get_or-map, ext_get_or, length-map}
+use Rattle.std.proofs.lemmas.List.{get_or-map, ext_get_or, length-map}
 use Rattle.std.proofs.lemmas.List.Elements.{All-map, All-weaker, All-cons, recursion_from_All}
 use Rattle.std.proofs.lemmas.List.FromFn.{get_or-range_with_len, length-range_with_len}
 use Rattle.std.proofs.lemmas.Bool.{cases_lt}

@@ -1,21 +1,18 @@
 -- The one law of renaming: a renamed literal, value or conjunction at places is the given one at the composed places.
-use Rattle.std.proofs.Common.{◌≡◌, ℕ, suc, ◌<◌, Bool, List, [], ◌∷◌, length, get_or, refl, sym, ap, ◌∙◌, subst, arith}
-use Rattle.std.specs.Prelude.{◌&&◌, ◌==◌, not, IsTrue, nat_lt, slice_index, map, int_le, ◌-ℤ◌, ◌+ℤ◌, All, AllPairs}
+use Rattle.std.proofs.Common.{◌≡◌, ℕ, suc, ◌<◌, List, [], ◌∷◌, length, refl, sym, ap, ◌∙◌, arith}
+use Rattle.std.specs.Prelude.{◌&&◌, ◌==◌, not, IsTrue, slice_index, int_le, ◌-ℤ◌, ◌+ℤ◌, All}
 use Rattle.std.specs.List.{list_all}
 use Rattle.std.proofs.lemmas.List.{get_or-map, length-map}
 use Rattle.cub_proto.specs.declared.literal.Term.{Term}
-use Rattle.cub_proto.specs.declared.literal.Term.TheVariants as Term
 use Rattle.cub_proto.specs.declared.literal.PSide.{PSide}
-use Rattle.cub_proto.specs.declared.literal.PSide.TheVariants as PSide
 use Rattle.cub_proto.specs.declared.literal.ISide.{ISide}
 use Rattle.cub_proto.specs.declared.literal.ISide.TheVariants.{Zero, At}
 use Rattle.cub_proto.specs.declared.literal.Lit.{Lit}
 use Rattle.cub_proto.specs.declared.literal.Lit.TheVariants.{FinIn, FinEq, FinNe, ProcEq, ProcNe, Diff}
 use Rattle.cub_proto.specs.declared.literal.Value.{Value}
-use Rattle.cub_proto.specs.declared.literal.Value.TheVariants as Value
 use Rattle.cub_proto.specs.declared.state.Slot.TheVariants as Slot
 use Rattle.cub_proto.specs.declared.state.Val.{Val}
-use Rattle.cub_proto.specs.declared.state.Val.TheVariants.{Con, Proc, Int}
+use Rattle.cub_proto.specs.declared.state.Val.TheVariants.{Proc, Int}
 use Rattle.cub_proto.specs.Configuration.{Configuration, value_at}
 use Rattle.cub_proto.specs.Fits.{place_fits}
 use Rattle.cub_proto.specs.Truth.{term_value, constructor_of, constructor_at, process_at, integer_of, integer_at, has_bit, is_true, all_true}

@@ -1,8 +1,7 @@
 -- A replaced literal fits, and is true before exactly where the literal is true of the values that its terms take.
-use Rattle.std.proofs.Common.{◌≡◌, ◌≢◌, ◌⊎◌, ℕ, suc, zero, ◌+◌, ◌-◌, ◌<◌, ◌≤◌, ◌^◌, ℤ, pos, Bool, true, false, List, [], ◌∷◌, ◌++◌, length, get_or, Option, Some, None, refl, sym, ap, ◌∙◌, subst, arith, inl, inr}
-use Rattle.std.specs.Prelude.{◌&&◌, ◌==◌, not, IsTrue, nat_lt, nat_le, int_le, ◌-ℤ◌, ◌+ℤ◌, All, unsigned_abs, slice_index, if◌then◌else◌}
+use Rattle.std.proofs.Common.{◌≡◌, ◌≢◌, ℕ, ◌<◌, ◌≤◌, ◌^◌, ℤ, pos, Bool, true, false, List, [], ◌∷◌, ◌++◌, length, Option, Some, None, refl, sym, ap, ◌∙◌, subst, arith}
+use Rattle.std.specs.Prelude.{◌&&◌, ◌==◌, not, IsTrue, nat_lt, nat_le, int_le, ◌-ℤ◌, ◌+ℤ◌, unsigned_abs}
 use Rattle.std.specs.List.{list_all, AllByRecursion}
-use Rattle.std.specs.Int.{bit_at}
 use Rattle.std.specs.Option.{option_map_or}
 use Rattle.std.proofs.lemmas.Option.{get_or_from_slice_get, slice_get_within}
 use Rattle.std.proofs.lemmas.List.Elements.{recursion_from_All}
@@ -13,30 +12,24 @@ use Rattle.std.proofs.lemmas.Int.{ints}
 use Rattle.std.proofs.Math.Pow.{pow-lt}
 use Rattle.cub_base.specs.Name.{is_declarable}
 use Rattle.cub_proto.specs.declared.literal.Sort.{Sort}
-use Rattle.cub_proto.specs.declared.literal.Sort.TheVariants as Sort
 use Rattle.cub_proto.specs.declared.literal.Term.{Term}
-use Rattle.cub_proto.specs.declared.literal.Term.TheVariants as Term
 use Rattle.cub_proto.specs.declared.literal.PSide.{PSide}
-use Rattle.cub_proto.specs.declared.literal.PSide.TheVariants as PSide
 use Rattle.cub_proto.specs.declared.literal.ISide.{ISide}
 use Rattle.cub_proto.specs.declared.literal.ISide.TheVariants.{Zero, At}
 use Rattle.cub_proto.specs.declared.literal.Lit.{Lit}
 use Rattle.cub_proto.specs.declared.literal.Lit.TheVariants.{FinIn, FinEq, FinNe, ProcEq, ProcNe, Diff}
 use Rattle.cub_proto.specs.declared.literal.Value.{Value}
-use Rattle.cub_proto.specs.declared.literal.Value.TheVariants as Value
 use Rattle.cub_proto.specs.declared.state.Val.{Val}
-use Rattle.cub_proto.specs.declared.state.Val.TheVariants.{Con, Proc, Int}
 use Rattle.cub_proto.specs.declared.protocol.SortDecl.{SortDecl}
 use Rattle.cub_proto.specs.declared.protocol.Decl.{Decl}
 use Rattle.cub_proto.specs.declared.protocol.Protocol.{Protocol}
 use Rattle.cub_proto.specs.Configuration.{Configuration}
 use Rattle.cub_proto.specs.Signature.{Signature, sort_of, declared_sort, constructors_of, constructors_at, same_sort, is_sort, same_finite}
 use Rattle.cub_proto.specs.StateOf.{IsStateOf, signature_of, first_state}
-use Rattle.cub_proto.specs.Fits.{literal_fits, is_finite, place_fits, term_fits, value_fits, process_side_fits, integer_side_fits, greatest_constant, array_fits, sort_is_there}
+use Rattle.cub_proto.specs.Fits.{literal_fits, is_finite, place_fits, process_side_fits, integer_side_fits, greatest_constant, array_fits, sort_is_there}
 use Rattle.cub_proto.specs.Truth.{is_true, has_bit, term_value, constructor_of, process_of, integer_of, constructor_at, process_at, integer_at}
 use Rattle.cub_proto.specs.Effect.{meaning_of}
 use Rattle.cub_proto.specs.Legal.{AreDistinctAlive}
-use Rattle.cub_proto.specs.Negation.{negated}
 use Rattle.cub_cube.specs.Rename.{Agree}
 use Rattle.cub_cube.specs.Mentions.{terms_of, process_side_terms, integer_side_terms}
 use Rattle.cub_cube.specs.Replace.{replaced, constant, FiniteSide, Known, Has, finite_side, side_in, sides_equal, process_value, replaced_process_side, base_of, added_of, replaced_base, replaced_added, can_replace, can_replace_all, TakesValues}
@@ -73,10 +66,10 @@ test_apart x y h = grind (arith, nat_tests)
 pub one_bit : (c x : ℕ) → has_bit (2 ^ c) x ≡ (c == x)
 one_bit c x = by (c == x) refl
   where
-  by : (b : Bool) → (c == x) ≡ b → has_bit (2 ^ c) x ≡ (c == x)
-  by true e = let same = same_is c x e in ap (λ n. has_bit (2 ^ c) n) (sym same) ∙ ap (λ n. n == 1) (bit_at-pow_same c) ∙ sym e
-  by false e =
-      let apart : x ≢ c = λ h. cc (test_same c x (sym h)) in ap (λ n. n == 1) (bit_at-pow_other c x apart) ∙ sym e
+    by : (b : Bool) → (c == x) ≡ b → has_bit (2 ^ c) x ≡ (c == x)
+    by true e = let same = same_is c x e in ap (λ n. has_bit (2 ^ c) n) (sym same) ∙ ap (λ n. n == 1) (bit_at-pow_same c) ∙ sym e
+    by false e =
+        let apart : x ≢ c = λ h. cc (test_same c x (sym h)) in ap (λ n. n == 1) (bit_at-pow_other c x apart) ∙ sym e
 
 -- ---- finite sides
 pub constructor_of_side : Configuration → List ℕ → FiniteSide → ℕ
@@ -112,8 +105,8 @@ counts_of sig t k e = ap (λ o. option_map_or (constructors_of sig) o 0) e
 mask_fits : (sig : Signature) (width k : ℕ) (t : Term) (mask : ℕ) → sort_of sig t ≡ Some (Sort.Fin k) → IsTrue (place_fits width t) → mask < 2 ^ constructors_of sig (Sort.Fin k) → IsTrue (literal_fits sig width (FinIn t mask))
 mask_fits sig width k t mask e place below =
     and_both (is_finite (sort_of sig t) && place_fits width t) (nat_lt mask (2 ^ constructors_at sig t))
-        (and_both (is_finite (sort_of sig t)) (place_fits width t) (subst (λ o. IsTrue (is_finite o)) (sym e) refl) place)
-        (is_less mask (2 ^ constructors_at sig t) (subst (λ n. mask < 2 ^ n) (sym (counts_of sig t k e)) below))
+    (and_both (is_finite (sort_of sig t)) (place_fits width t) (subst (λ o. IsTrue (is_finite o)) (sym e) refl) place)
+    (is_less mask (2 ^ constructors_at sig t) (subst (λ n. mask < 2 ^ n) (sym (counts_of sig t k e)) below))
 
 sides_equal_fits : (sig : Signature) (width k : ℕ) (x y : FiniteSide) → SideFits sig width k x → SideFits sig width k y → IsTrue (literal_fits sig width (sides_equal x y))
 unfolding SideFits
@@ -122,7 +115,7 @@ sides_equal_fits sig width k (Known c) (Has u) h l = mask_fits sig width k u (2 
 sides_equal_fits sig width k (Has t) (Known d) h l = mask_fits sig width k t (2 ^ d) h.0 h.1 (pow-lt l)
 sides_equal_fits sig width k (Has t) (Has u) h l =
     and_both (same_finite (sort_of sig t) (sort_of sig u) && place_fits width t) (place_fits width u)
-        (and_both (same_finite (sort_of sig t) (sort_of sig u)) (place_fits width t) (both_finite (sort_of sig t) (sort_of sig u) k h.0 l.0) h.1) l.1
+    (and_both (same_finite (sort_of sig t) (sort_of sig u)) (place_fits width t) (both_finite (sort_of sig t) (sort_of sig u) k h.0 l.0) h.1) l.1
 
 sides_equal_true : (s : Configuration) (places : List ℕ) (x y : FiniteSide) → is_true s places (sides_equal x y) ≡ (constructor_of_side s places x == constructor_of_side s places y)
 unfolding constructor_of_side
@@ -197,8 +190,8 @@ module _ (p : Protocol) (s : Configuration) (places : List ℕ) (value : Term �
   unfolding replaces_term
   replaced_process_fits width (PSide.Global g) within fits can =
       process_value_fits g (value (Term.Global g))
-          (replaces (signature_of p) (length places) value (Term.Global g) Sort.Proc (sort_is (declared_sort p.globals g) Sort.Proc fits)
-              (and_left (option_map_or (λ sort. can_replace (signature_of p) (length places) sort (value (Term.Global g))) (declared_sort p.globals g) false) true can))
+      (replaces (signature_of p) (length places) value (Term.Global g) Sort.Proc (sort_is (declared_sort p.globals g) Sort.Proc fits)
+      (and_left (option_map_or (λ sort. can_replace (signature_of p) (length places) sort (value (Term.Global g))) (declared_sort p.globals g) false) true can))
   replaced_process_fits width (PSide.Place q) within fits can = let below = less_is q width fits in is_less q (length places) (omega arith)
 
   module _ (after : Configuration) (others : List ℕ) where
@@ -210,8 +203,8 @@ module _ (p : Protocol) (s : Configuration) (places : List ℕ) (value : Term �
     unfolding replaces_term Takes
     replaced_process_is width (PSide.Global g) fits can agree takes =
         process_value_is g (value (Term.Global g)) (term_value s places (Term.Global g))
-            (replaces (signature_of p) (length places) value (Term.Global g) Sort.Proc (sort_is (declared_sort p.globals g) Sort.Proc fits)
-                (and_left (option_map_or (λ sort. can_replace (signature_of p) (length places) sort (value (Term.Global g))) (declared_sort p.globals g) false) true can))
+        (replaces (signature_of p) (length places) value (Term.Global g) Sort.Proc (sort_is (declared_sort p.globals g) Sort.Proc fits)
+        (and_left (option_map_or (λ sort. can_replace (signature_of p) (length places) sort (value (Term.Global g))) (declared_sort p.globals g) false) true can))
         ∙ ap process_of (sym takes.0)
     replaced_process_is width (PSide.Place q) fits can agree takes = sym (agree q (less_is q width fits))
 
@@ -222,28 +215,28 @@ module _ (p : Protocol) (s : Configuration) (places : List ℕ) (value : Term �
     replaced_integer_is width (At t) fits can takes =
         ap integer_of takes.0
         ∙ by (value t) (replaces (signature_of p) (length places) value t Sort.Int (sort_is (sort_of (signature_of p) t) Sort.Int (and_left (is_sort (sort_of (signature_of p) t) Sort.Int) (place_fits width t) fits))
-            (and_left (option_map_or (λ sort. can_replace (signature_of p) (length places) sort (value t)) (sort_of (signature_of p) t) false) true can))
+        (and_left (option_map_or (λ sort. can_replace (signature_of p) (length places) sort (value t)) (sort_of (signature_of p) t) false) true can))
       where
-      by : (v : Value) → IsTrue (can_replace (signature_of p) (length places) Sort.Int v) → integer_of (meaning_of s places v (term_value s places t)) ≡ integer_at s places (base_of v) +ℤ added_of v
-      by (Value.Con c) h = cc
-      by (Value.Read u) h = plus_zero (integer_at s places (At u))
-      by (Value.Proc side) h = cc
-      by (Value.Sum base add) h = refl
-      by Value.Any h = cc
+        by : (v : Value) → IsTrue (can_replace (signature_of p) (length places) Sort.Int v) → integer_of (meaning_of s places v (term_value s places t)) ≡ integer_at s places (base_of v) +ℤ added_of v
+        by (Value.Con c) h = cc
+        by (Value.Read u) h = plus_zero (integer_at s places (At u))
+        by (Value.Proc side) h = cc
+        by (Value.Sum base add) h = refl
+        by Value.Any h = cc
 
   replaced_integer_fits : (width : ℕ) (a : ISide) → IsTrue (integer_side_fits (signature_of p) width a) → IsTrue (list_all replaces_term (integer_side_terms a)) → IsTrue (integer_side_fits (signature_of p) (length places) (replaced_base value a))
   unfolding replaces_term
   replaced_integer_fits width Zero fits can = refl
   replaced_integer_fits width (At t) fits can =
       by (value t) (replaces (signature_of p) (length places) value t Sort.Int (sort_is (sort_of (signature_of p) t) Sort.Int (and_left (is_sort (sort_of (signature_of p) t) Sort.Int) (place_fits width t) fits))
-          (and_left (option_map_or (λ sort. can_replace (signature_of p) (length places) sort (value t)) (sort_of (signature_of p) t) false) true can))
+      (and_left (option_map_or (λ sort. can_replace (signature_of p) (length places) sort (value t)) (sort_of (signature_of p) t) false) true can))
     where
-    by : (v : Value) → IsTrue (can_replace (signature_of p) (length places) Sort.Int v) → IsTrue (integer_side_fits (signature_of p) (length places) (base_of v))
-    by (Value.Con c) h = cc
-    by (Value.Read u) h = h
-    by (Value.Proc side) h = cc
-    by (Value.Sum base add) h = and_left (integer_side_fits (signature_of p) (length places) base) (nat_le (unsigned_abs add) greatest_constant) h
-    by Value.Any h = cc
+      by : (v : Value) → IsTrue (can_replace (signature_of p) (length places) Sort.Int v) → IsTrue (integer_side_fits (signature_of p) (length places) (base_of v))
+      by (Value.Con c) h = cc
+      by (Value.Read u) h = h
+      by (Value.Proc side) h = cc
+      by (Value.Sum base add) h = and_left (integer_side_fits (signature_of p) (length places) base) (nat_le (unsigned_abs add) greatest_constant) h
+      by Value.Any h = cc
 
   -- a finite term of the literal: what replaces it has its constructor, and fits
   finite_fits : (t : Term) (k : ℕ) → sort_of (signature_of p) t ≡ Some (Sort.Fin k) → IsTrue (replaces_term t) → SideFits (signature_of p) (length places) k (finite_side (value t))
@@ -254,11 +247,11 @@ module _ (p : Protocol) (s : Configuration) (places : List ℕ) (value : Term �
       → IsTrue (literal_fits (signature_of p) (length places) (sides_equal (finite_side (value a)) (finite_side (value b))))
   finite_both_fit width a b fits can =
       let k = finite_both (sort_of (signature_of p) a) (sort_of (signature_of p) b)
-              (and_left (same_finite (sort_of (signature_of p) a) (sort_of (signature_of p) b)) (place_fits width a)
-                  (and_left (same_finite (sort_of (signature_of p) a) (sort_of (signature_of p) b) && place_fits width a) (place_fits width b) fits)) in
+      (and_left (same_finite (sort_of (signature_of p) a) (sort_of (signature_of p) b)) (place_fits width a)
+      (and_left (same_finite (sort_of (signature_of p) a) (sort_of (signature_of p) b) && place_fits width a) (place_fits width b) fits)) in
       sides_equal_fits (signature_of p) (length places) k.0 (finite_side (value a)) (finite_side (value b))
-          (finite_fits a k.0 k.1 (and_left (replaces_term a) (replaces_term b && true) can))
-          (finite_fits b k.0 k.2 (and_left (replaces_term b) true (and_right (replaces_term a) (replaces_term b && true) can)))
+      (finite_fits a k.0 k.1 (and_left (replaces_term a) (replaces_term b && true) can))
+      (finite_fits b k.0 k.2 (and_left (replaces_term b) true (and_right (replaces_term a) (replaces_term b && true) can)))
 
   finite_in_fits : (width : ℕ) (t : Term) (mask k : ℕ) (x : FiniteSide) → SideFits (signature_of p) (length places) k x → sort_of (signature_of p) t ≡ Some (Sort.Fin k) → IsTrue (literal_fits (signature_of p) width (FinIn t mask))
       → IsTrue (literal_fits (signature_of p) (length places) (side_in x mask))
@@ -266,13 +259,13 @@ module _ (p : Protocol) (s : Configuration) (places : List ℕ) (value : Term �
   finite_in_fits width t mask k (Known c) h e fits = refl
   finite_in_fits width t mask k (Has u) h e fits =
       mask_fits (signature_of p) (length places) k u mask h.0 h.1
-          (subst (λ n. mask < 2 ^ n) (counts_of (signature_of p) t k e)
-              (less_is mask (2 ^ constructors_at (signature_of p) t) (and_right (is_finite (sort_of (signature_of p) t) && place_fits width t) (nat_lt mask (2 ^ constructors_at (signature_of p) t)) fits)))
+      (subst (λ n. mask < 2 ^ n) (counts_of (signature_of p) t k e)
+      (less_is mask (2 ^ constructors_at (signature_of p) t) (and_right (is_finite (sort_of (signature_of p) t) && place_fits width t) (nat_lt mask (2 ^ constructors_at (signature_of p) t)) fits)))
 
   finite_sort : (width : ℕ) (t : Term) (mask : ℕ) → IsTrue (literal_fits (signature_of p) width (FinIn t mask)) → (k : ℕ) × (sort_of (signature_of p) t ≡ Some (Sort.Fin k))
   finite_sort width t mask fits =
       finite_is (sort_of (signature_of p) t)
-          (and_left (is_finite (sort_of (signature_of p) t)) (place_fits width t) (and_left (is_finite (sort_of (signature_of p) t) && place_fits width t) (nat_lt mask (2 ^ constructors_at (signature_of p) t)) fits))
+      (and_left (is_finite (sort_of (signature_of p) t)) (place_fits width t) (and_left (is_finite (sort_of (signature_of p) t) && place_fits width t) (nat_lt mask (2 ^ constructors_at (signature_of p) t)) fits))
 
   fits_all : (width : ℕ) (l : Lit) → width ≤ length places → IsTrue (literal_fits (signature_of p) width l) → IsTrue (list_all replaces_term (terms_of l)) → IsTrue (literal_fits (signature_of p) (length places) (replaced (signature_of p) value l))
   fits_all width (FinIn t mask) within fits can =
@@ -283,18 +276,18 @@ module _ (p : Protocol) (s : Configuration) (places : List ℕ) (value : Term �
   fits_all width (ProcEq a b) within fits can =
       let parts = split_all replaces_term (process_side_terms a) (process_side_terms b) can in
       and_both (process_side_fits (signature_of p) (length places) (replaced_process_side value a)) (process_side_fits (signature_of p) (length places) (replaced_process_side value b))
-          (replaced_process_fits width a within (and_left (process_side_fits (signature_of p) width a) (process_side_fits (signature_of p) width b) fits) parts.0)
-          (replaced_process_fits width b within (and_right (process_side_fits (signature_of p) width a) (process_side_fits (signature_of p) width b) fits) parts.1)
+      (replaced_process_fits width a within (and_left (process_side_fits (signature_of p) width a) (process_side_fits (signature_of p) width b) fits) parts.0)
+      (replaced_process_fits width b within (and_right (process_side_fits (signature_of p) width a) (process_side_fits (signature_of p) width b) fits) parts.1)
   fits_all width (ProcNe a b) within fits can =
       let parts = split_all replaces_term (process_side_terms a) (process_side_terms b) can in
       and_both (process_side_fits (signature_of p) (length places) (replaced_process_side value a)) (process_side_fits (signature_of p) (length places) (replaced_process_side value b))
-          (replaced_process_fits width a within (and_left (process_side_fits (signature_of p) width a) (process_side_fits (signature_of p) width b) fits) parts.0)
-          (replaced_process_fits width b within (and_right (process_side_fits (signature_of p) width a) (process_side_fits (signature_of p) width b) fits) parts.1)
+      (replaced_process_fits width a within (and_left (process_side_fits (signature_of p) width a) (process_side_fits (signature_of p) width b) fits) parts.0)
+      (replaced_process_fits width b within (and_right (process_side_fits (signature_of p) width a) (process_side_fits (signature_of p) width b) fits) parts.1)
   fits_all width (Diff a b bound) within fits can =
       let parts = split_all replaces_term (integer_side_terms a) (integer_side_terms b) can in
       and_both (integer_side_fits (signature_of p) (length places) (replaced_base value a)) (integer_side_fits (signature_of p) (length places) (replaced_base value b))
-          (replaced_integer_fits width a (and_left (integer_side_fits (signature_of p) width a) (integer_side_fits (signature_of p) width b) fits) parts.0)
-          (replaced_integer_fits width b (and_right (integer_side_fits (signature_of p) width a) (integer_side_fits (signature_of p) width b) fits) parts.1)
+      (replaced_integer_fits width a (and_left (integer_side_fits (signature_of p) width a) (integer_side_fits (signature_of p) width b) fits) parts.0)
+      (replaced_integer_fits width b (and_right (integer_side_fits (signature_of p) width a) (integer_side_fits (signature_of p) width b) fits) parts.1)
 
   pub replaced_fits_all : (width : ℕ) (l : Lit) → width ≤ length places → IsTrue (literal_fits (signature_of p) width l) → IsTrue (can_replace_all (signature_of p) (length places) value l)
       → IsTrue (literal_fits (signature_of p) (length places) (replaced (signature_of p) value l))
@@ -311,8 +304,8 @@ module _ (p : Protocol) (s : Configuration) (places : List ℕ) (value : Term �
         → is_true s places (sides_equal (finite_side (value a)) (finite_side (value b))) ≡ (constructor_at after others a == constructor_at after others b)
     equal_true width a b fits can takes =
         let k = finite_both (sort_of (signature_of p) a) (sort_of (signature_of p) b)
-                (and_left (same_finite (sort_of (signature_of p) a) (sort_of (signature_of p) b)) (place_fits width a)
-                    (and_left (same_finite (sort_of (signature_of p) a) (sort_of (signature_of p) b) && place_fits width a) (place_fits width b) fits)) in
+        (and_left (same_finite (sort_of (signature_of p) a) (sort_of (signature_of p) b)) (place_fits width a)
+        (and_left (same_finite (sort_of (signature_of p) a) (sort_of (signature_of p) b) && place_fits width a) (place_fits width b) fits)) in
         sides_equal_true s places (finite_side (value a)) (finite_side (value b))
         ∙ ap (λ x. x == constructor_of_side s places (finite_side (value b))) (finite_is_at a k.0 k.1 (and_left (replaces_term a) (replaces_term b && true) can) takes.0)
         ∙ ap (λ x. constructor_at after others a == x) (finite_is_at b k.0 k.2 (and_left (replaces_term b) true (and_right (replaces_term a) (replaces_term b && true) can)) takes.1.0)
@@ -324,9 +317,9 @@ module _ (p : Protocol) (s : Configuration) (places : List ℕ) (value : Term �
         let parts = split_all replaces_term (process_side_terms a) (process_side_terms b) can in
         let each = split_each (Takes after others) (process_side_terms a) (process_side_terms b) takes in
         ap (λ x. x == process_at s places (replaced_process_side value b))
-            (replaced_process_is after others width a (and_left (process_side_fits (signature_of p) width a) (process_side_fits (signature_of p) width b) fits) parts.0 agree each.0)
+        (replaced_process_is after others width a (and_left (process_side_fits (signature_of p) width a) (process_side_fits (signature_of p) width b) fits) parts.0 agree each.0)
         ∙ ap (λ x. process_at after others a == x)
-            (replaced_process_is after others width b (and_right (process_side_fits (signature_of p) width a) (process_side_fits (signature_of p) width b) fits) parts.1 agree each.1)
+        (replaced_process_is after others width b (and_right (process_side_fits (signature_of p) width a) (process_side_fits (signature_of p) width b) fits) parts.1 agree each.1)
 
     true_all : (width : ℕ) (l : Lit) → IsTrue (literal_fits (signature_of p) width l) → IsTrue (list_all replaces_term (terms_of l)) → Agree width others places → AllByRecursion (Takes after others) (terms_of l)
         → is_true s places (replaced (signature_of p) value l) ≡ is_true after others l
@@ -342,8 +335,8 @@ module _ (p : Protocol) (s : Configuration) (places : List ℕ) (value : Term �
         let parts = split_all replaces_term (integer_side_terms a) (integer_side_terms b) can in
         let each = split_each (Takes after others) (integer_side_terms a) (integer_side_terms b) takes in
         moved (integer_at s places (replaced_base value a)) (integer_at s places (replaced_base value b)) (replaced_added value a) (replaced_added value b) (integer_at after others a) (integer_at after others b) bound
-            (replaced_integer_is after others width a (and_left (integer_side_fits (signature_of p) width a) (integer_side_fits (signature_of p) width b) fits) parts.0 each.0)
-            (replaced_integer_is after others width b (and_right (integer_side_fits (signature_of p) width a) (integer_side_fits (signature_of p) width b) fits) parts.1 each.1)
+        (replaced_integer_is after others width a (and_left (integer_side_fits (signature_of p) width a) (integer_side_fits (signature_of p) width b) fits) parts.0 each.0)
+        (replaced_integer_is after others width b (and_right (integer_side_fits (signature_of p) width a) (integer_side_fits (signature_of p) width b) fits) parts.1 each.1)
 
     pub replaced_true : (width : ℕ) (l : Lit) → IsTrue (literal_fits (signature_of p) width l) → IsTrue (can_replace_all (signature_of p) (length places) value l) → Agree width others places → TakesValues s places after others value l
         → is_true s places (replaced (signature_of p) value l) ≡ is_true after others l
@@ -356,8 +349,8 @@ pub replaced_fits_wide : (p : Protocol) (width wide : ℕ) (value : Term → Val
 replaced_fits_wide p width wide value l within fits can =
     let size = length-range_with_len 0 wide in
     subst (λ n. IsTrue (literal_fits (signature_of p) n (replaced (signature_of p) value l))) size
-        (replaced_fits_all p (any_state p) (identity wide) value width l (subst (λ n. width ≤ n) (sym size) within) fits
-            (subst (λ n. IsTrue (can_replace_all (signature_of p) n value l)) (sym size) can))
+    (replaced_fits_all p (any_state p) (identity wide) value width l (subst (λ n. width ≤ n) (sym size) within) fits
+    (subst (λ n. IsTrue (can_replace_all (signature_of p) n value l)) (sym size) can))
   where
-  any_state : Protocol → Configuration
-  any_state p = first_state p 1
+    any_state : Protocol → Configuration
+    any_state p = first_state p 1

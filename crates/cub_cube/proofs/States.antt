@@ -1,28 +1,11 @@
 -- Processes at places.
-use Rattle.std.proofs.Common.{◌≡◌, ◌⊎◌, ℕ, zero, suc, ◌<◌, ◌≤◌, Bool, true, false, List, [], ◌∷◌, length, get_or, Option, Some, None, refl, sym, ap, ◌∙◌, subst, arith, inl, inr}
-use Rattle.std.specs.Prelude.{slice_get, slice_index, slice_index_or, option_map, All, AllPairs, IsTrue, ◌&&◌, nat_lt, unwrap_or}
-use Rattle.std.specs.List.{AllZip}
-use Rattle.std.specs.Option.{option_map_or}
+use Rattle.std.proofs.Common.{◌≡◌, ℕ, ◌<◌, Bool, true, false, List, length, get_or, Option, Some, None, refl, sym, arith}
+use Rattle.std.specs.Prelude.{slice_index, All, IsTrue, nat_lt}
 use Rattle.std.proofs.lemmas.Grind.{common_steps}
-use Rattle.std.proofs.lemmas.List.{get_or_past}
-use Rattle.std.proofs.lemmas.Option.{slice_get_cases, get_or_from_slice_get, slice_get_within}
 use Rattle.cub_proto.specs.declared.literal.Sort.{Sort}
-use Rattle.cub_proto.specs.declared.literal.Sort.TheVariants as Sort
-use Rattle.cub_proto.specs.declared.literal.Term.{Term}
-use Rattle.cub_proto.specs.declared.literal.Term.TheVariants as Term
-use Rattle.cub_proto.specs.declared.state.Slot.{Slot}
-use Rattle.cub_proto.specs.declared.state.Slot.TheVariants as Slot
-use Rattle.cub_proto.specs.declared.state.Val.{Val}
-use Rattle.cub_proto.specs.declared.state.Val.TheVariants.{Con, Proc, Int}
-use Rattle.cub_proto.specs.declared.protocol.Decl.{Decl}
-use Rattle.cub_proto.specs.declared.protocol.Protocol.{Protocol}
-use Rattle.cub_proto.specs.Configuration.{Configuration, process_count, is_alive, IsAlive, cells_of, value_at}
-use Rattle.cub_proto.specs.Signature.{Signature, declared_sort, sort_of, constructors_of, constructors_at}
-use Rattle.cub_proto.specs.StateOf.{IsStateOf, IsOfSort, AreCells, signature_of}
-use Rattle.cub_proto.specs.Truth.{slot_of, term_value, constructor_of, constructor_at}
-use Rattle.cub_proto.specs.Fits.{is_finite, place_fits}
+use Rattle.cub_proto.specs.Configuration.{Configuration, process_count}
+use Rattle.cub_proto.specs.Fits.{is_finite}
 use Rattle.cub_proto.specs.Legal.{AreDistinctAlive}
-use Rattle.cub_cube.specs.Meaning.{AreAtPlaces}
 use Rattle.cub_proto.proofs.StateValues.{alive_within}
 use Rattle.cub_cube.proofs.Bools.{less_is}
 

@@ -1,19 +1,17 @@
 -- After a step a term at alive processes has the value of its update before.
-use Rattle.std.proofs.Common.{◌≡◌, ℕ, zero, suc, ◌+◌, ◌<◌, Bool, true, List, [], ◌∷◌, ◌++◌, length, get_or, Option, refl, sym, ap, ◌∙◌, subst, arith}
-use Rattle.std.specs.Prelude.{IsTrue, if◌then◌else◌, slice_index}
+use Rattle.std.proofs.Common.{◌≡◌, ℕ, zero, suc, ◌+◌, ◌<◌, true, List, [], ◌∷◌, ◌++◌, length, get_or, Option, ap, ◌∙◌, arith}
+use Rattle.std.specs.Prelude.{if◌then◌else◌, slice_index}
 use Rattle.cub_proto.specs.declared.literal.Term.{Term}
-use Rattle.cub_proto.specs.declared.literal.Term.TheVariants as Term
 use Rattle.cub_proto.specs.declared.transition.Target.TheVariants as Target
 use Rattle.cub_proto.specs.declared.transition.Update.{Update}
 use Rattle.cub_proto.specs.declared.state.Slot.{Slot}
-use Rattle.cub_proto.specs.declared.state.Slot.TheVariants as Slot
 use Rattle.cub_proto.specs.declared.state.Val.{Val}
-use Rattle.cub_proto.specs.declared.state.Val.TheVariants.{Con, Proc, Int}
-use Rattle.cub_proto.specs.Configuration.{Configuration, is_alive, IsAlive, cells_of}
+use Rattle.cub_proto.specs.declared.state.Val.TheVariants.{Con}
+use Rattle.cub_proto.specs.Configuration.{Configuration, is_alive, cells_of}
 use Rattle.cub_proto.specs.Truth.{term_value, HasTerm}
 use Rattle.cub_proto.specs.Effect.{map_from, fired, updated, update_of, global_after, cell_after, cells_after}
 use Rattle.cub_proto.specs.Legal.{AreDistinctAlive}
-use Rattle.cub_cube.specs.Step.{target_of, update_places, value_after}
+use Rattle.cub_cube.specs.Step.{value_after}
 
 pub get_or-map_from : {A B : Type 0} (f : ℕ → A → B) (n : ℕ) (xs : List A) (i : ℕ) (d : A) (e : B) → i < length xs → get_or (map_from f n xs) i e ≡ f (n + i) (get_or xs i d)
 get_or-map_from f n [] i d e h = absurd (omega arith)

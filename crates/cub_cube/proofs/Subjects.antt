@@ -1,10 +1,9 @@
 -- Literals of one subject, and what joining them and ordering their sides leaves true.
-use Rattle.std.proofs.Common.{◌≡◌, ℕ, ◌+◌, ◌<◌, ℤ, pos, Bool, cond, true, false, List, [], ◌∷◌, refl, sym, ap, ◌∙◌, subst, arith, min}
-use Rattle.std.specs.Prelude.{◌&&◌, ◌==◌, not, bit_and, IsTrue, int_le, ◌-ℤ◌}
+use Rattle.std.proofs.Common.{◌≡◌, ℕ, ◌<◌, ℤ, Bool, cond, true, false, List, refl, ap, subst, arith, min}
+use Rattle.std.specs.Prelude.{◌&&◌, ◌==◌, not, bit_and, int_le, ◌-ℤ◌}
 use Rattle.std.specs.Int.{int_min, bit_at}
-use Rattle.std.specs.Ordering.{is_gt, ordering_then, nat_cmp, int_cmp}
-use Rattle.std.specs.declared.cmp.Ordering.{Ordering}
-use Rattle.std.specs.declared.cmp.Ordering.TheVariants.{Less, Equal, Greater}
+use Rattle.std.specs.Ordering.{is_gt, ordering_then}
+use Rattle.std.specs.declared.cmp.Ordering.TheVariants.{Equal}
 use Rattle.std.proofs.lemmas.Nat.Bits.{bit_at_and, bit_at-lt}
 use Rattle.std.proofs.lemmas.Bool.Decides.{nat_tests}
 use Rattle.std.proofs.lemmas.Int.{ints}

@@ -1,6 +1,6 @@
 -- The terms that a conjunction mentions: they rise, and are exactly those of its literals.
-use Rattle.std.proofs.Common.{◌≡◌, ◌⊎◌, ℕ, suc, zero, ◌+◌, ◌<◌, ◌≤◌, Bool, true, false, List, [], ◌∷◌, ◌++◌, length, get_or, take, drop, refl, sym, ap, ◌∙◌, subst, arith, inl, inr}
-use Rattle.std.specs.Prelude.{IsTrue, Contains, fold, ◌&&◌, ◌↔◌}
+use Rattle.std.proofs.Common.{◌≡◌, ◌⊎◌, ℕ, suc, zero, ◌+◌, ◌<◌, ◌≤◌, true, List, [], ◌∷◌, ◌++◌, length, get_or, take, drop, refl, sym, ap, ◌∙◌, subst, arith, inl, inr}
+use Rattle.std.specs.Prelude.{IsTrue, Contains, fold}
 use Rattle.std.specs.List.{flat_map, list_all}
 use Rattle.std.specs.Ordering.{is_lt, match_ordering, ordering_reverse}
 use Rattle.std.specs.declared.cmp.Ordering.{Ordering}
@@ -27,36 +27,36 @@ with_term_new : (us : List Term) (t : Term) → Has (with_term us t) t
 with_term_new [] t = inl refl
 with_term_new (u ∷ us) t = by (term_cmp t u) refl (with_term_new us t)
   where
-  by : (o : Ordering) → term_cmp t u ≡ o → Has (with_term us t) t → Has (match_ordering o (t ∷ u ∷ us) (u ∷ us) (u ∷ with_term us t)) t
-  by Less e rest = inl refl
-  by Equal e rest = inl (sym (terms_equal t u e))
-  by Greater e rest = inr rest
+    by : (o : Ordering) → term_cmp t u ≡ o → Has (with_term us t) t → Has (match_ordering o (t ∷ u ∷ us) (u ∷ us) (u ∷ with_term us t)) t
+    by Less e rest = inl refl
+    by Equal e rest = inl (sym (terms_equal t u e))
+    by Greater e rest = inr rest
 
 with_term_old : (us : List Term) (t x : Term) → Has us x → Has (with_term us t) x
 with_term_old [] t x h = absurd h
 with_term_old (u ∷ us) t x h = by (term_cmp t u) h (with_term_old us t x)
   where
-  by : (o : Ordering) → Has (u ∷ us) x → (Has us x → Has (with_term us t) x) → Has (match_ordering o (t ∷ u ∷ us) (u ∷ us) (u ∷ with_term us t)) x
-  by Less k rest = inr k
-  by Equal k rest = k
-  by Greater (inl same) rest = inl same
-  by Greater (inr later) rest = inr (rest later)
+    by : (o : Ordering) → Has (u ∷ us) x → (Has us x → Has (with_term us t) x) → Has (match_ordering o (t ∷ u ∷ us) (u ∷ us) (u ∷ with_term us t)) x
+    by Less k rest = inr k
+    by Equal k rest = k
+    by Greater (inl same) rest = inl same
+    by Greater (inr later) rest = inr (rest later)
 
 with_term_cases : (us : List Term) (t x : Term) → Has (with_term us t) x → (t ≡ x) ⊎ Has us x
 with_term_cases [] t x (inl same) = inl same
 with_term_cases [] t x (inr later) = absurd later
 with_term_cases (u ∷ us) t x h = by (term_cmp t u) h (with_term_cases us t x)
   where
-  by : (o : Ordering) → Has (match_ordering o (t ∷ u ∷ us) (u ∷ us) (u ∷ with_term us t)) x → (Has (with_term us t) x → (t ≡ x) ⊎ Has us x) → (t ≡ x) ⊎ Has (u ∷ us) x
-  by Less (inl same) rest = inl same
-  by Less (inr later) rest = inr later
-  by Equal k rest = inr k
-  by Greater (inl same) rest = inr (inl same)
-  by Greater (inr later) rest = deeper (rest later)
-    where
-    deeper : (t ≡ x) ⊎ Has us x → (t ≡ x) ⊎ Has (u ∷ us) x
-    deeper (inl same) = inl same
-    deeper (inr k) = inr (inr k)
+    by : (o : Ordering) → Has (match_ordering o (t ∷ u ∷ us) (u ∷ us) (u ∷ with_term us t)) x → (Has (with_term us t) x → (t ≡ x) ⊎ Has us x) → (t ≡ x) ⊎ Has (u ∷ us) x
+    by Less (inl same) rest = inl same
+    by Less (inr later) rest = inr later
+    by Equal k rest = inr k
+    by Greater (inl same) rest = inr (inl same)
+    by Greater (inr later) rest = deeper (rest later)
+      where
+        deeper : (t ≡ x) ⊎ Has us x → (t ≡ x) ⊎ Has (u ∷ us) x
+        deeper (inl same) = inl same
+        deeper (inr k) = inr (inr k)
 
 fold_old : (us ts : List Term) (x : Term) → Has us x → Has (fold with_term us ts) x
 fold_old us [] x h = h
@@ -71,12 +71,13 @@ fold_cases : (us ts : List Term) (x : Term) → Has (fold with_term us ts) x →
 fold_cases us [] x h = inl h
 fold_cases us (t ∷ ts) x h = by (fold_cases (with_term us t) ts x h)
   where
-  deeper : (t ≡ x) ⊎ Has us x → Has us x ⊎ Has (t ∷ ts) x
-  deeper (inl same) = inr (inl same)
-  deeper (inr k) = inl k
-  by : Has (with_term us t) x ⊎ Has ts x → Has us x ⊎ Has (t ∷ ts) x
-  by (inl k) = deeper (with_term_cases us t x k)
-  by (inr k) = inr (inr k)
+    deeper : (t ≡ x) ⊎ Has us x → Has us x ⊎ Has (t ∷ ts) x
+    deeper (inl same) = inr (inl same)
+    deeper (inr k) = inl k
+
+    by : Has (with_term us t) x ⊎ Has ts x → Has us x ⊎ Has (t ∷ ts) x
+    by (inl k) = deeper (with_term_cases us t x k)
+    by (inr k) = inr (inr k)
 
 pub mentioned_in : (lits : List Lit) (t : Term) → Mentions lits t → Contains (terms_in lits) t
 mentioned_in lits t (l, inside, mentions) =
@@ -85,9 +86,9 @@ mentioned_in lits t (l, inside, mentions) =
 pub in_mentioned : (lits : List Lit) (t : Term) → Contains (terms_in lits) t → Mentions lits t
 in_mentioned lits t h = by (fold_cases [] (flat_map terms_of lits) t (contains_Has (terms_in lits) t h))
   where
-  by : Has [] t ⊎ Has (flat_map terms_of lits) t → Mentions lits t
-  by (inl none) = absurd none
-  by (inr k) = let found = flat_map_has terms_of lits t k in (found.0, has_Contains lits found.0 found.1, has_Contains (terms_of found.0) t found.2)
+    by : Has [] t ⊎ Has (flat_map terms_of lits) t → Mentions lits t
+    by (inl none) = absurd none
+    by (inr k) = let found = flat_map_has terms_of lits t k in (found.0, has_Contains lits found.0 found.1, has_Contains (terms_of found.0) t found.2)
 
 -- ---- order
 below_all : (k l : Term) (ms : List Term) → term_cmp k l ≡ Less → IsTrue (list_all (λ m. is_lt (term_cmp l m)) ms) → IsTrue (list_all (λ m. is_lt (term_cmp k m)) ms)
@@ -95,30 +96,30 @@ below_all k l [] h all = refl
 below_all k l (m ∷ ms) h all =
     let first = less_from (term_cmp l m) (and_left (is_lt (term_cmp l m)) (list_all (λ x. is_lt (term_cmp l x)) ms) all) in
     and_both (is_lt (term_cmp k m)) (list_all (λ x. is_lt (term_cmp k x)) ms) (ap is_lt (term_cmp_total.trans k l m h first))
-        (below_all k l ms h (and_right (is_lt (term_cmp l m)) (list_all (λ x. is_lt (term_cmp l x)) ms) all))
+    (below_all k l ms h (and_right (is_lt (term_cmp l m)) (list_all (λ x. is_lt (term_cmp l x)) ms) all))
 
 below_with : (k : Term) (us : List Term) (t : Term) → IsTrue (list_all (λ m. is_lt (term_cmp k m)) us) → term_cmp k t ≡ Less → IsTrue (list_all (λ m. is_lt (term_cmp k m)) (with_term us t))
 below_with k [] t all h = and_both (is_lt (term_cmp k t)) true (ap is_lt h) refl
 below_with k (u ∷ us) t all h = by (term_cmp t u) (below_with k us t (and_right (is_lt (term_cmp k u)) (list_all (λ x. is_lt (term_cmp k x)) us) all) h)
   where
-  by : (o : Ordering) → IsTrue (list_all (λ x. is_lt (term_cmp k x)) (with_term us t)) → IsTrue (list_all (λ x. is_lt (term_cmp k x)) (match_ordering o (t ∷ u ∷ us) (u ∷ us) (u ∷ with_term us t)))
-  by Less rest = and_both (is_lt (term_cmp k t)) (list_all (λ x. is_lt (term_cmp k x)) (u ∷ us)) (ap is_lt h) all
-  by Equal rest = all
-  by Greater rest = and_both (is_lt (term_cmp k u)) (list_all (λ x. is_lt (term_cmp k x)) (with_term us t)) (and_left (is_lt (term_cmp k u)) (list_all (λ x. is_lt (term_cmp k x)) us) all) rest
+    by : (o : Ordering) → IsTrue (list_all (λ x. is_lt (term_cmp k x)) (with_term us t)) → IsTrue (list_all (λ x. is_lt (term_cmp k x)) (match_ordering o (t ∷ u ∷ us) (u ∷ us) (u ∷ with_term us t)))
+    by Less rest = and_both (is_lt (term_cmp k t)) (list_all (λ x. is_lt (term_cmp k x)) (u ∷ us)) (ap is_lt h) all
+    by Equal rest = all
+    by Greater rest = and_both (is_lt (term_cmp k u)) (list_all (λ x. is_lt (term_cmp k x)) (with_term us t)) (and_left (is_lt (term_cmp k u)) (list_all (λ x. is_lt (term_cmp k x)) us) all) rest
 
 rises_with : (us : List Term) (t : Term) → IsTrue (terms_rise us) → IsTrue (terms_rise (with_term us t))
 rises_with [] t rises = refl
 rises_with (u ∷ us) t rises = by (term_cmp t u) refl (rises_with us t (and_right (list_all (λ x. is_lt (term_cmp u x)) us) (terms_rise us) rises))
   where
-  by : (o : Ordering) → term_cmp t u ≡ o → IsTrue (terms_rise (with_term us t)) → IsTrue (terms_rise (match_ordering o (t ∷ u ∷ us) (u ∷ us) (u ∷ with_term us t)))
-  by Less e rest =
-      and_both (list_all (λ x. is_lt (term_cmp t x)) (u ∷ us)) (terms_rise (u ∷ us))
-          (and_both (is_lt (term_cmp t u)) (list_all (λ x. is_lt (term_cmp t x)) us) (ap is_lt e) (below_all t u us e (and_left (list_all (λ x. is_lt (term_cmp u x)) us) (terms_rise us) rises)))
-          rises
-  by Equal e rest = rises
-  by Greater e rest =
-      and_both (list_all (λ x. is_lt (term_cmp u x)) (with_term us t)) (terms_rise (with_term us t))
-          (below_with u us t (and_left (list_all (λ x. is_lt (term_cmp u x)) us) (terms_rise us) rises) (term_cmp_total.antisymm u t ∙ ap ordering_reverse e)) rest
+    by : (o : Ordering) → term_cmp t u ≡ o → IsTrue (terms_rise (with_term us t)) → IsTrue (terms_rise (match_ordering o (t ∷ u ∷ us) (u ∷ us) (u ∷ with_term us t)))
+    by Less e rest =
+        and_both (list_all (λ x. is_lt (term_cmp t x)) (u ∷ us)) (terms_rise (u ∷ us))
+        (and_both (is_lt (term_cmp t u)) (list_all (λ x. is_lt (term_cmp t x)) us) (ap is_lt e) (below_all t u us e (and_left (list_all (λ x. is_lt (term_cmp u x)) us) (terms_rise us) rises)))
+        rises
+    by Equal e rest = rises
+    by Greater e rest =
+        and_both (list_all (λ x. is_lt (term_cmp u x)) (with_term us t)) (terms_rise (with_term us t))
+        (below_with u us t (and_left (list_all (λ x. is_lt (term_cmp u x)) us) (terms_rise us) rises) (term_cmp_total.antisymm u t ∙ ap ordering_reverse e)) rest
 
 fold_rises : (us ts : List Term) → IsTrue (terms_rise us) → IsTrue (terms_rise (fold with_term us ts))
 fold_rises us [] rises = rises
@@ -149,7 +150,7 @@ term_there (u ∷ us) t (suc n) within before same =
 pub terms_more : (lits : List Lit) (i : ℕ) (d : Lit) → i < length lits → fold with_term (terms_in (take i lits)) (terms_of (get_or lits i d)) ≡ terms_in (take (i + 1) lits)
 terms_more lits i d h =
     sym (ap terms_in (take_more lits i d h) ∙ ap (fold with_term []) (flat_map-append terms_of (take i lits) (get_or lits i d ∷ []) ∙ ap (λ xs. flat_map terms_of (take i lits) ++ xs) (append-nil (terms_of (get_or lits i d))))
-        ∙ fold-append with_term [] (flat_map terms_of (take i lits)) (terms_of (get_or lits i d)))
+    ∙ fold-append with_term [] (flat_map terms_of (take i lits)) (terms_of (get_or lits i d)))
 
 less_case : (o : Ordering) → (o ≡ Greater → ⊥) → (o ≡ Equal → ⊥) → o ≡ Less
 less_case Less h k = refl

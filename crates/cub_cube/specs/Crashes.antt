@@ -1,6 +1,5 @@
 -- Crashes of processes, one after another.
 use Rattle.std.specs.Prelude.{◌≡◌, ℕ, zero, suc, Bool, ◌&&◌, not, if◌then◌else◌, List, [], ◌∷◌, length, map}
-use Rattle.cub_proto.specs.declared.state.Val.{Val}
 use Rattle.cub_proto.specs.declared.event.Event.{Event}
 use Rattle.cub_proto.specs.declared.event.Event.TheVariants.{Crash}
 use Rattle.cub_proto.specs.Configuration.{Configuration, is_alive, IsAlive, killed}

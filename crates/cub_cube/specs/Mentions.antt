@@ -3,9 +3,7 @@ use Rattle.std.specs.Prelude.{Bool, true, ◌&&◌, List, [], ◌∷◌, ◌++�
 use Rattle.std.specs.List.{flat_map, list_all}
 use Rattle.std.specs.Ordering.{is_lt, match_ordering}
 use Rattle.cub_proto.specs.declared.literal.Term.{Term}
-use Rattle.cub_proto.specs.declared.literal.Term.TheVariants as Term
 use Rattle.cub_proto.specs.declared.literal.PSide.{PSide}
-use Rattle.cub_proto.specs.declared.literal.PSide.TheVariants as PSide
 use Rattle.cub_proto.specs.declared.literal.ISide.{ISide}
 use Rattle.cub_proto.specs.declared.literal.ISide.TheVariants.{Zero, At}
 use Rattle.cub_proto.specs.declared.literal.Lit.{Lit}

@@ -1,19 +1,15 @@
 -- A literal whose terms are replaced by the values that they take. Each is again one literal.
-use Rattle.std.specs.Prelude.{◌≡◌, All, ℕ, ◌^◌, ℤ, pos, ◌-ℤ◌, ◌+ℤ◌, Bool, false, true, ◌&&◌, ◌==◌, nat_le, unsigned_abs, if◌then◌else◌, List}
+use Rattle.std.specs.Prelude.{◌≡◌, All, ℕ, ◌^◌, ℤ, pos, ◌-ℤ◌, ◌+ℤ◌, Bool, false, ◌==◌, if◌then◌else◌, List}
 use Rattle.std.specs.List.{list_all}
 use Rattle.std.specs.Option.{option_map_or}
 use Rattle.cub_proto.specs.declared.literal.Sort.{Sort}
-use Rattle.cub_proto.specs.declared.literal.Sort.TheVariants as Sort
 use Rattle.cub_proto.specs.declared.literal.Term.{Term}
-use Rattle.cub_proto.specs.declared.literal.Term.TheVariants as Term
 use Rattle.cub_proto.specs.declared.literal.PSide.{PSide}
-use Rattle.cub_proto.specs.declared.literal.PSide.TheVariants as PSide
 use Rattle.cub_proto.specs.declared.literal.ISide.{ISide}
 use Rattle.cub_proto.specs.declared.literal.ISide.TheVariants.{Zero, At}
 use Rattle.cub_proto.specs.declared.literal.Lit.{Lit}
 use Rattle.cub_proto.specs.declared.literal.Lit.TheVariants.{FinIn, FinEq, FinNe, ProcEq, ProcNe, Diff}
 use Rattle.cub_proto.specs.declared.literal.Value.{Value}
-use Rattle.cub_proto.specs.declared.literal.Value.TheVariants as Value
 use Rattle.cub_proto.specs.Signature.{Signature, sort_of}
 use Rattle.cub_proto.specs.Configuration.{Configuration}
 use Rattle.cub_proto.specs.Truth.{has_bit, term_value}

@@ -1,9 +1,7 @@
 -- What a step does to the value of one term.
 use Rattle.std.specs.Prelude.{ℕ, List, [], ◌∷◌, ◌++◌, Option, slice_index}
 use Rattle.cub_proto.specs.declared.literal.Term.{Term}
-use Rattle.cub_proto.specs.declared.literal.Term.TheVariants as Term
 use Rattle.cub_proto.specs.declared.transition.Target.{Target}
-use Rattle.cub_proto.specs.declared.transition.Target.TheVariants as Target
 use Rattle.cub_proto.specs.declared.transition.Update.{Update}
 use Rattle.cub_proto.specs.declared.state.Slot.{Slot}
 use Rattle.cub_proto.specs.declared.state.Val.{Val}

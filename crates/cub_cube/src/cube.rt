@@ -43,7 +43,12 @@ impl Cube {
         requires { IsTrue (list_all (is_within (length places.now)) self.now.lits) }
         ensures { IfOk result (λ c. c ≡ record { width = width; lits = normal_form (signature_of protocol.now) (renamed_all places.now self.now.lits) }) }
     {
-        let lits = normal::renamed_form(self.lits.allocator(), protocol, places, self.lits.as_slice())?;
+        let lits = normal::renamed_form(
+            self.lits.allocator(),
+            protocol,
+            places,
+            self.lits.as_slice(),
+        )?;
         Ok(Cube { width, lits })
     }
 }

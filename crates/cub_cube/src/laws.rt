@@ -123,28 +123,24 @@ pub fn replaced_is_true_of_values()
         → IsTrue (can_replace_all (signature_of p) (length places) value lit) → Agree width others places
         → TakesValues s places after others value lit
         → is_true s places (replaced (signature_of p) value lit) ≡ is_true after others lit }
-{
-}
+{}
 
 /// A replaced literal fits the places of its values.
 pub fn replaced_fits()
     ensures { (p : Protocol) (width wide : ℕ) (value : Term → Value) (lit : Lit) → width ≤ wide → IsTrue (literal_fits (signature_of p) width lit)
         → IsTrue (can_replace_all (signature_of p) wide value lit) → IsTrue (literal_fits (signature_of p) wide (replaced (signature_of p) value lit)) }
-{
-}
+{}
 
 /// The terms in a conjunction rise, and are exactly those that its literals mention.
 pub fn terms_in_are_mentioned()
     ensures order { (lits : List Lit) → IsTrue (terms_rise (terms_in lits)) }
     ensures members { (lits : List Lit) (t : Term) → Contains (terms_in lits) t ↔ Mentions lits t }
-{
-}
+{}
 
 /// A protocol with an inductive list of cubes is safe.
 pub fn inductive_is_safe()
     ensures { (p : Protocol) (cubes : List Cube) → IsInductive p cubes → IsSafe p }
-{
-}
+{}
 
 /// Crashes change no value: after the crashes of any processes the state is the same but for who is alive, and who
 /// satisfies a conjunction then did so before.
@@ -154,23 +150,20 @@ pub fn crashes_change_no_value()
         → Satisfies after places width lits → Satisfies s places width lits }
     ensures behind { (s after : Configuration) (places : List ℕ) (width : ℕ) (lits : List Lit) → IsCrashed s after → All (IsAlive after) places
         → Satisfies s places width lits → Satisfies after places width lits }
-{
-}
+{}
 
 /// All processes but those that are kept can crash, one after another; those that are kept stay alive.
 pub fn all_others_can_crash()
     ensures legal { (p : Protocol) (s : Configuration) (keep : ℕ → Bool) → AreLegal p s (crashes (spare keep s (process_count s))) }
     ensures left { (p : Protocol) (s : Configuration) (keep : ℕ → Bool) (i : ℕ)
         → IsAlive (after_all p s (crashes (spare keep s (process_count s)))) i ↔ (IsAlive s i × IsTrue (keep i)) }
-{
-}
+{}
 
 /// Places that agree below the width make a conjunction of that width true alike.
 pub fn agreeing_places_are_alike()
     ensures { (s : Configuration) (width : ℕ) (places others : List ℕ) (lits : List Lit) → IsTrue (list_all (is_within width) lits)
         → Agree width places others → all_true s places lits ≡ all_true s others lits }
-{
-}
+{}
 
 /// What fits has its places below the width, and what is renamed fits the width of the big thing.
 pub fn renamed_fits()
@@ -178,21 +171,18 @@ pub fn renamed_fits()
         → IsTrue (list_all (is_within width) lits) }
     ensures fits { (sig : Signature) (width : ℕ) (r : List ℕ) (lits : List Lit) → All (λ p. p < width) r
         → IsTrue (list_all (literal_fits sig (length r)) lits) → IsTrue (list_all (literal_fits sig width) (renamed_all r lits)) }
-{
-}
+{}
 
 /// A renamed cube is satisfied exactly at the composed places.
 pub fn renamed_cube_is_at_composed_places()
     ensures { (p : Protocol) (width : ℕ) (r : List ℕ) (lits : List Lit) → All (λ q. q < width) r
         → IsTrue (list_all (literal_fits (signature_of p) (length r)) lits) → (s : Configuration) (places : List ℕ) → AreAtPlaces p s places width
         → all_true s places (normal_form (signature_of p) (renamed_all r lits)) ≡ all_true s (along r places) lits }
-{
-}
+{}
 
 /// After a step a term at alive processes has the value of its update, read in the state before.
 pub fn fired_updates_terms()
     ensures { (s : Configuration) (params : List ℕ) (updates : List Update) (pick : Slot → Option Val) (places : List ℕ) (t : Term)
         → HasTerm s places t → AreDistinctAlive s places
         → term_value (fired s params updates pick) places t ≡ value_after s params updates pick places t }
-{
-}
+{}

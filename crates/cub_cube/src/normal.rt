@@ -175,7 +175,12 @@ pub fn normal_form(alloc: Global, protocol: &Protocol, lits: &[Lit]) -> Result<L
 }
 
 /// The normal form of a conjunction at the places of a renaming.
-pub fn renamed_form(alloc: Global, protocol: &Protocol, places: &[u8], lits: &[Lit]) -> Result<Lits, Memory>
+pub fn renamed_form(
+    alloc: Global,
+    protocol: &Protocol,
+    places: &[u8],
+    lits: &[Lit],
+) -> Result<Lits, Memory>
     requires { IsTrue (list_all (is_within (length places.now)) lits.now) }
     ensures { IfOk result (λ form. form ≡ normal_form (signature_of protocol.now) (renamed_all places.now lits.now)) }
 {
@@ -190,8 +195,10 @@ fn has_ordered_sides(lit: &Lit) -> bool
     ensures { result ≡ has_ordered_sides lit.now }
 {
     match *lit {
-        Lit::FinEq { a, b } | Lit::FinNe { a, b } => cub_proto::compare_terms(a, b) != Ordering::Greater,
-        Lit::ProcEq { a, b } | Lit::ProcNe { a, b } => cub_proto::compare_process_sides(a, b) != Ordering::Greater,
+        Lit::FinEq { a, b } | Lit::FinNe { a, b } => cub_proto::compare_terms(a, b)
+            != Ordering::Greater,
+        Lit::ProcEq { a, b } | Lit::ProcNe { a, b } => cub_proto::compare_process_sides(a, b)
+            != Ordering::Greater,
         Lit::FinIn { .. } | Lit::Diff { .. } => true,
     }
 }

@@ -12,11 +12,10 @@ pub returns-clause-left : goal.returns-clause-left
 returns-clause-left c p s keep i =
     let crashed = spare keep s (process_count s) in
     let is = after_crashes p s crashed in
-    let all = spare_all p keep s (process_count s) in
-    (
-        λ h.
-            let there = subst (λ t. IsAlive t i) is h in
-            let alive = (killed_all_crashed s crashed).alive i there in
-            (alive, all.others i (alive_within s i alive) there),
-        λ h. subst (λ t. IsAlive t i) (sym is) (all.kept i h.1 h.0)
+    let all = spare_all p keep s (process_count s) in (
+      λ h.
+          let there = subst (λ t. IsAlive t i) is h in
+          let alive = (killed_all_crashed s crashed).alive i there in
+          (alive, all.others i (alive_within s i alive) there),
+      λ h. subst (λ t. IsAlive t i) (sym is) (all.kept i h.1 h.0),
     )

@@ -1,4 +1,4 @@
-use Rattle.std.proofs.Common.{sym, subst, length}
+use Rattle.std.proofs.Common.{sym, subst}
 use Rattle.std.specs.Prelude.{IsTrue, []}
 use Rattle.std.specs.List.{list_all}
 use Rattle.cub_proto.specs.Fits.{literal_fits}

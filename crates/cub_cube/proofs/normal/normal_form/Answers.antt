@@ -1,4 +1,4 @@
-use Rattle.std.proofs.Common.{◌≡◌, ◌<◌, ◌∙◌, [], length, get_or, IsTrue, sym, ap, subst, arith}
+use Rattle.std.proofs.Common.{◌<◌, ◌∙◌, [], length, get_or, IsTrue, sym, ap, subst, arith}
 use Rattle.std.proofs.lemmas.List.Sums.{fold_more}
 use Rattle.cub_proto.specs.declared.literal.Term.TheVariants as Term
 use Rattle.cub_proto.specs.declared.literal.Lit.{Lit}

@@ -22,7 +22,7 @@ loop-lit-preserved c =
     let within : c.loop-lit.lit-index < length c.args.lits.now = omega arith in
     let lit : Lit = get_or c.args.lits.now c.loop-lit.lit-index (FinIn (Term.Global 0) 0) in
     let is : c.place.new.form.items ≡ placed (signature_of c.args.protocol.now) c.loop-lit.form.items (renamed c.args.places.now lit) =
-            c.in_ok-place.ensures ∙ ap (placed (signature_of c.args.protocol.now) c.loop-lit.form.items) c.renamed.ensures in
+    c.in_ok-place.ensures ∙ ap (placed (signature_of c.args.protocol.now) c.loop-lit.form.items) c.renamed.ensures in
     record {
       so_far =
           is ∙ ap (λ form. placed (signature_of c.args.protocol.now) form (renamed c.args.places.now lit)) c.loop-lit.invariant.so_far
