@@ -1,0 +1,12 @@
+use Rattle.std.proofs.Common.{◌≡◌, take, [], IsTrue}
+use Rattle.std.specs.Prelude.{fold}
+use Rattle.cub_proto.specs.StateOf.{signature_of}
+use Rattle.cub_cube.specs.Normal.{placed, subjects_rise}
+use Rattle.cub_cube.specs.Rename.{renamed}
+use Rattle.cub_cube.proofs.normal.renamed_form.Given as goal
+
+abbrev pub invariant-loop-lit : goal.invariant-loop-lit
+invariant-loop-lit l = record {
+  so_far : l.form.items ≡ fold (λ form lit. placed (signature_of l.protocol) form (renamed l.places lit)) [] (take l.lit-index l.lits);
+  rises : IsTrue (subjects_rise l.form.items);
+}
