@@ -19,3 +19,4 @@ pub mod Agreeing
 pub mod Adjacent
 pub mod Steps
 pub mod RenamedFits
+pub mod Bounds

@@ -137,7 +137,7 @@ plus_zero : (x : ℤ) → x ≡ x +ℤ pos 0
 plus_zero x = grind (arith, ints)
 
 -- ---- what can replace the terms of a literal
-split_all : {X : Type 0} (f : X → Bool) (xs ys : List X) → IsTrue (list_all f (xs ++ ys)) → IsTrue (list_all f xs) × IsTrue (list_all f ys)
+pub split_all : {X : Type 0} (f : X → Bool) (xs ys : List X) → IsTrue (list_all f (xs ++ ys)) → IsTrue (list_all f xs) × IsTrue (list_all f ys)
 split_all f [] ys h = (refl, h)
 split_all f (x ∷ xs) ys h =
     let rest = split_all f xs ys (and_right (f x) (list_all f (xs ++ ys)) h) in
@@ -147,7 +147,7 @@ split_each : {X : Type 0} (P : X → Type 0) (xs ys : List X) → AllByRecursion
 split_each P [] ys h = (tt, h)
 split_each P (x ∷ xs) ys h = let rest = split_each P xs ys h.1 in ((h.0, rest.0), rest.1)
 
-replaces : (sig : Signature) (width : ℕ) (value : Term → Value) (t : Term) (sort : Sort) → sort_of sig t ≡ Some sort
+pub replaces : (sig : Signature) (width : ℕ) (value : Term → Value) (t : Term) (sort : Sort) → sort_of sig t ≡ Some sort
     → IsTrue (option_map_or (λ x. can_replace sig width x (value t)) (sort_of sig t) false) → IsTrue (can_replace sig width sort (value t))
 replaces sig width value t sort e h = subst (λ o. IsTrue (option_map_or (λ x. can_replace sig width x (value t)) o false)) e h
 

@@ -24,19 +24,29 @@ mod mentions;
 
 pub use mentions::terms_in;
 
-// Laws of the normal form, of renaming and of replacement.
-// Laws of covering and of inductive lists.
-// Laws of steps and crashes that pre-images rest on.
-mod laws;
+// Laws of the normal form, of renaming, of replacement and of mentioned terms.
+mod form_laws;
 
-pub use laws::{
-    agreeing_places_are_alike, all_others_can_crash, composed_places_satisfy,
-    consistent_cubes_are_one_list, covered_states_meet, covering_goes_along, covering_is_reflexive,
-    covering_is_transitive, crashes_change_no_value, fired_updates_terms, inductive_is_safe,
-    least_cover_is_one, normal_form_fits, normal_form_is_normal, normal_form_keeps_meaning,
+pub use form_laws::{
+    composed_places_satisfy, normal_form_fits, normal_form_is_normal, normal_form_keeps_meaning,
     normal_form_stays, renamed_cube_is_at_composed_places, renamed_fits,
     renamed_is_at_composed_places, renamed_value_is_at_composed_places, replaced_fits,
-    replaced_is_true_of_values, terms_in_are_mentioned,
+    replaced_is_true_of_values, same_meaning_is_met, terms_in_are_mentioned,
+};
+
+// Laws of covering, of consistent cubes and of inductive lists.
+mod cover_laws;
+
+pub use cover_laws::{
+    consistent_cubes_are_one_list, covered_states_meet, covering_goes_along, covering_is_reflexive,
+    covering_is_transitive, inductive_is_safe, least_cover_is_one,
+};
+
+// Laws of steps and crashes, for pre-images.
+mod step_laws;
+
+pub use step_laws::{
+    agreeing_places_are_alike, all_others_can_crash, crashes_change_no_value, fired_updates_terms,
 };
 
 #[cfg(test)]

@@ -1,5 +1,0 @@
-use Rattle.cub_cube.proofs.Placing.{along_satisfies}
-use Rattle.cub_cube.proofs.laws.composed_places_satisfy.Goals as goal
-
-pub returns : goal.returns
-returns c = along_satisfies

@@ -1,5 +1,0 @@
-use Rattle.cub_cube.proofs.Covering.{least_same}
-use Rattle.cub_cube.proofs.laws.least_cover_is_one.Goals as goal
-
-pub returns : goal.returns
-returns c = least_same

@@ -1,5 +1,0 @@
-use Rattle.cub_cube.proofs.Form.{form_stays}
-use Rattle.cub_cube.proofs.laws.normal_form_stays.Goals as goal
-
-pub returns : goal.returns
-returns c = form_stays

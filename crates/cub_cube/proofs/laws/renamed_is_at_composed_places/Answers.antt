@@ -1,5 +1,0 @@
-use Rattle.cub_cube.proofs.Renames.{renamed_all_true}
-use Rattle.cub_cube.proofs.laws.renamed_is_at_composed_places.Goals as goal
-
-pub returns : goal.returns
-returns c = renamed_all_true
