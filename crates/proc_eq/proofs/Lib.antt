@@ -1,0 +1,4 @@
+pub mod Conjunction
+pub mod Merging
+pub mod Closing
+pub mod Choosing
