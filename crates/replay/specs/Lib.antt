@@ -1,0 +1,6 @@
+pub mod FitsEvent
+pub mod Fault
+pub mod Start
+pub mod Bound
+pub mod Machine
+pub mod Reads

@@ -1,0 +1,45 @@
+-- What a firing reads in a state.
+use Rattle.std.specs.Prelude.{◌≡◌, ℕ, ◌+◌, ◌<◌, ◌≤◌, ◌^◌, unsigned_abs, List, [], ◌∷◌, ◌++◌, length, All, IsTrue}
+use Rattle.cub_proto.specs.declared.literal.Value.{Value}
+use Rattle.cub_proto.specs.declared.literal.Value.TheVariants as Value
+use Rattle.cub_proto.specs.declared.transition.Target.{Target}
+use Rattle.cub_proto.specs.declared.transition.Target.TheVariants as Target
+use Rattle.cub_proto.specs.declared.transition.Update.{Update}
+use Rattle.cub_proto.specs.declared.transition.Transition.{Transition}
+use Rattle.cub_proto.specs.declared.protocol.Protocol.{Protocol}
+use Rattle.cub_proto.specs.Configuration.{Configuration, process_count, cells_of}
+use Rattle.cub_proto.specs.Fits.{transition_fits}
+use Rattle.cub_proto.specs.StateOf.{IsStateOf, signature_of}
+use Rattle.cub_proto.specs.Truth.{integer_at, HasTerm, HasProcessSide, HasIntegerSide, HasLiterals}
+
+-- a transition of the protocol, with parameters among the processes of one of its states
+pub record IsFiring (p : Protocol) (s : Configuration) (t : Transition) (params : List ℕ) : Type 0 where
+  pub state_of : IsStateOf p s
+  pub fits : IsTrue (transition_fits (signature_of p) t)
+  pub one_each : length params ≡ t.params
+  pub processes : All (λ i. i < process_count s) params
+
+-- the literals of every condition of the update can be read
+abbrev pub ReadsConditions : Configuration → List ℕ → Update → Type 0
+ReadsConditions s places u = All (λ b. HasLiterals s places b.cond) u.branches
+
+-- what the value reads is there, and its sum is small
+abbrev pub ReadsValue : Configuration → List ℕ → Value → Type 0
+ReadsValue s places (Value.Con c) = Unit {0}
+ReadsValue s places (Value.Read t) = HasTerm s places t
+ReadsValue s places (Value.Proc side) = HasProcessSide s places side
+ReadsValue s places (Value.Sum base add) =
+    HasIntegerSide s places base × (unsigned_abs (integer_at s places base) + unsigned_abs add ≤ 2 ^ 62)
+ReadsValue s places Value.Any = Unit {0}
+
+-- the update can be computed
+pub record ReadsUpdate (s : Configuration) (places : List ℕ) (u : Update) : Type 0 where
+  pub conditions : ReadsConditions s places u
+  pub values : All (λ b. ReadsValue s places b.value) u.branches
+  pub last : ReadsValue s places u.last
+
+-- the target's slots are there, and the update can be computed for each of them
+abbrev pub ReadsTarget : Configuration → List ℕ → Update → Target → Type 0
+ReadsTarget s params u (Target.Global g) = (g < length s.globals) × ReadsUpdate s params u
+ReadsTarget s params u (Target.Array a) =
+    (a < length s.arrays) × (length (cells_of s a) ≡ process_count s) × ((i : ℕ) → i < process_count s → ReadsUpdate s (params ++ i ∷ []) u)
