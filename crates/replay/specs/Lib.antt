@@ -4,3 +4,4 @@ pub mod Start
 pub mod Bound
 pub mod Machine
 pub mod Reads
+pub mod Writes

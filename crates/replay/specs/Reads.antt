@@ -7,10 +7,11 @@ use Rattle.cub_proto.specs.declared.transition.Target.TheVariants as Target
 use Rattle.cub_proto.specs.declared.transition.Update.{Update}
 use Rattle.cub_proto.specs.declared.transition.Transition.{Transition}
 use Rattle.cub_proto.specs.declared.protocol.Protocol.{Protocol}
-use Rattle.cub_proto.specs.Configuration.{Configuration, process_count, cells_of}
+use Rattle.cub_proto.specs.Configuration.{Configuration, process_count}
 use Rattle.cub_proto.specs.Fits.{transition_fits}
 use Rattle.cub_proto.specs.StateOf.{IsStateOf, signature_of}
 use Rattle.cub_proto.specs.Truth.{integer_at, HasTerm, HasProcessSide, HasIntegerSide, HasLiterals}
+use Rattle.replay.specs.Writes.{HasTarget}
 
 -- a transition of the protocol, with parameters among the processes of one of its states
 pub record IsFiring (p : Protocol) (s : Configuration) (t : Transition) (params : List ℕ) : Type 0 where
@@ -38,8 +39,11 @@ pub record ReadsUpdate (s : Configuration) (places : List ℕ) (u : Update) : Ty
   pub values : All (λ b. ReadsValue s places b.value) u.branches
   pub last : ReadsValue s places u.last
 
--- the target's slots are there, and the update can be computed for each of them
+-- the update can be computed for each slot of its target
 abbrev pub ReadsTarget : Configuration → List ℕ → Update → Target → Type 0
-ReadsTarget s params u (Target.Global g) = (g < length s.globals) × ReadsUpdate s params u
-ReadsTarget s params u (Target.Array a) =
-    (a < length s.arrays) × (length (cells_of s a) ≡ process_count s) × ((i : ℕ) → i < process_count s → ReadsUpdate s (params ++ i ∷ []) u)
+ReadsTarget s params u (Target.Global g) = ReadsUpdate s params u
+ReadsTarget s params u (Target.Array a) = (i : ℕ) → i < process_count s → ReadsUpdate s (params ++ i ∷ []) u
+
+-- the updates' slots are there, and the updates can be computed
+abbrev pub ReadsUpdates : Configuration → List ℕ → List Update → Type 0
+ReadsUpdates s params us = All (λ u. HasTarget s u.target × ReadsTarget s params u u.target) us

@@ -14,6 +14,9 @@ pub use fits::{fit_events, fits_event, picks_rise};
 // The first fault of an event.
 mod fault_at;
 
+// What a firing writes.
+mod effect;
+
 // The replay.
 mod machine;
 

@@ -1,0 +1,89 @@
+-- Writes keep the slots that are there.
+use Rattle.std.proofs.Common.{◌≡◌, ℕ, zero, suc, ◌+◌, ◌<◌, ◌≤◌, List, [], ◌∷◌, ◌++◌, Some, None, length, get_or, set, take, drop, refl, sym, ap, ◌∙◌, arith, All}
+use Rattle.std.proofs.lemmas.List.{length-set, get_or-set_same, get_or-set_other, set-set, get_or_past, set_past}
+use Rattle.std.proofs.lemmas.Bool.{cases_eq, cases_lt}
+use Rattle.std.specs.Prelude.{◌⊎◌}
+use Rattle.std.proofs.Common.{inl, inr}
+use Rattle.cub_proto.specs.declared.literal.Value.{Value}
+use Rattle.cub_proto.specs.declared.transition.Branch.{Branch}
+use Rattle.cub_proto.specs.declared.transition.Target.{Target}
+use Rattle.cub_proto.specs.declared.transition.Target.TheVariants as Target
+use Rattle.cub_proto.specs.declared.transition.Update.{Update}
+use Rattle.cub_proto.specs.declared.state.Slot.{Slot}
+use Rattle.cub_proto.specs.declared.state.Slot.TheVariants as Slot
+use Rattle.cub_proto.specs.declared.state.Val.{Val}
+use Rattle.cub_proto.specs.declared.event.Chosen.{Chosen}
+use Rattle.cub_proto.specs.Configuration.{Configuration, value_at, cells_of, HasSlot, put}
+use Rattle.cub_proto.specs.Effect.{cell_after, map_from}
+use Rattle.replay.specs.Writes.{SameShape, HasTarget, with_cells, new_cells, written_at, copied_at}
+use Rattle.replay.proofs.Lists.{length-map_from}
+
+-- the cells of an array that was given other cells
+pub cells_of_same : (t : Configuration) (a : ℕ) (cells : List Val) → a < length t.arrays → cells_of (with_cells t a cells) a ≡ cells
+cells_of_same t a cells h = get_or-set_same t.arrays a cells [] h
+
+-- a cell written there
+pub put_cell : (t : Configuration) (a i : ℕ) (cells : List Val) (v : Val) → a < length t.arrays → put (with_cells t a cells) (Slot.Cell a i) v ≡ with_cells t a (set cells i v)
+put_cell t a i cells v h =
+    ap (λ c. with_cells (with_cells t a cells) a (set c i v)) (cells_of_same t a cells h)
+    ∙ ap (λ arrays. record t { arrays = arrays }) (set-set t.arrays a cells (set cells i v))
+
+pub has_cell_there : (t : Configuration) (a i : ℕ) (cells : List Val) → a < length t.arrays → i < length cells → HasSlot (with_cells t a cells) (Slot.Cell a i)
+has_cell_there t a i cells h within =
+    let e = cells_of_same t a cells h in
+    let l = length-set t.arrays a cells in
+    (omega arith, omega (arith, ap length e))
+
+-- other cells of the same length
+pub length_cells : (t : Configuration) (a b : ℕ) (cells : List Val) → length cells ≡ length (cells_of t a) → length (cells_of (with_cells t a cells) b) ≡ length (cells_of t b)
+length_cells t a b cells same =
+    elim (cases_eq b a) as (λ _. length (cells_of (with_cells t a cells) b) ≡ length (cells_of t b)) [
+      inl e ↦ at_same e
+    | inr ne ↦ ap length (get_or-set_other t.arrays a b cells [] ne)
+    ]
+  where
+    at_same : b ≡ a → length (cells_of (with_cells t a cells) b) ≡ length (cells_of t b)
+    at_same e =
+        elim (cases_lt a (length t.arrays)) as (λ _. length (cells_of (with_cells t a cells) b) ≡ length (cells_of t b)) [
+          inl h ↦ ap (λ k. length (cells_of (with_cells t a cells) k)) e ∙ ap length (cells_of_same t a cells h) ∙ same ∙ ap (λ k. length (cells_of t k)) (sym e)
+        | inr h ↦ ap (λ arrays. length (get_or arrays b [])) (set_past t.arrays a cells h)
+        ]
+
+pub shape_with_cells : (s t : Configuration) (a : ℕ) (cells : List Val) → SameShape s t → length cells ≡ length (cells_of t a) → SameShape s (with_cells t a cells)
+shape_with_cells s t a cells shape same = record {
+  living = shape.living;
+  globals = shape.globals;
+  arrays = length-set t.arrays a cells ∙ shape.arrays;
+  cells = λ b. length_cells t a b cells same ∙ shape.cells b;
+}
+
+pub shape_put : (s t : Configuration) (slot : Slot) (v : Val) → SameShape s t → SameShape s (put t slot v)
+shape_put s t (Slot.Global g) v shape = record {
+  living = shape.living;
+  globals = length-set t.globals g v ∙ shape.globals;
+  arrays = shape.arrays;
+  cells = shape.cells;
+}
+shape_put s t (Slot.Cell a i) v shape =
+    shape_with_cells s t a (set (cells_of t a) i v) shape (length-set (cells_of t a) i v)
+
+-- a slot that is there stays there
+pub has_slot_shape : (s t : Configuration) (slot : Slot) → SameShape s t → HasSlot s slot → HasSlot t slot
+has_slot_shape s t (Slot.Global g) shape h = let e = shape.globals in omega arith
+has_slot_shape s t (Slot.Cell a i) shape h =
+    let e = shape.arrays in
+    let f = shape.cells a in
+    (omega (arith, h.0), omega (arith, h.1))
+
+pub shape_same : (s : Configuration) → SameShape s s
+shape_same s = record { living = refl; globals = refl; arrays = refl; cells = λ _. refl }
+
+pub written_at_shape : (s t : Configuration) (params : List ℕ) (u : Update) (target : Target) → SameShape s t → SameShape s (written_at s params u t target)
+written_at_shape s t params u (Target.Global g) shape = shape_put s t (Slot.Global g) _ shape
+written_at_shape s t params u (Target.Array a) shape =
+    shape_with_cells s t a (new_cells s params u a) shape
+    (length-map_from (cell_after s params (Some u) (λ _. None) a) 0 (cells_of s a) ∙ sym (shape.cells a))
+
+pub copied_at_shape : (s t : Configuration) (target : Target) → SameShape s t → SameShape s (copied_at s t target)
+copied_at_shape s t (Target.Global g) shape = shape_put s t (Slot.Global g) _ shape
+copied_at_shape s t (Target.Array a) shape = shape_with_cells s t a (cells_of s a) shape (sym (shape.cells a))
