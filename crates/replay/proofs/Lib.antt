@@ -4,4 +4,9 @@ pub mod Parts
 pub mod Rising
 pub mod Shapes
 pub mod Cells
+pub mod Found
+pub mod Fired
+pub mod Slots
+pub mod Passes
+pub mod Reading
 pub mod Counting

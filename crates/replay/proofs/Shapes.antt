@@ -14,9 +14,10 @@ use Rattle.cub_proto.specs.declared.state.Slot.TheVariants as Slot
 use Rattle.cub_proto.specs.declared.state.Val.{Val}
 use Rattle.cub_proto.specs.declared.event.Chosen.{Chosen}
 use Rattle.cub_proto.specs.Configuration.{Configuration, value_at, cells_of, HasSlot, put}
-use Rattle.cub_proto.specs.Effect.{cell_after, map_from}
+use Rattle.std.proofs.Common.{Option}
+use Rattle.cub_proto.specs.Effect.{cell_after, cells_after, global_after, update_of, fired, map_from}
 use Rattle.replay.specs.Writes.{SameShape, HasTarget, with_cells, new_cells, written_at, copied_at}
-use Rattle.replay.proofs.Lists.{length-map_from}
+use Rattle.replay.proofs.Lists.{length-map_from, get_or-map_from_zero}
 
 -- the cells of an array that was given other cells
 pub cells_of_same : (t : Configuration) (a : ℕ) (cells : List Val) → a < length t.arrays → cells_of (with_cells t a cells) a ≡ cells
@@ -87,3 +88,37 @@ written_at_shape s t params u (Target.Array a) shape =
 pub copied_at_shape : (s t : Configuration) (target : Target) → SameShape s t → SameShape s (copied_at s t target)
 copied_at_shape s t (Target.Global g) shape = shape_put s t (Slot.Global g) _ shape
 copied_at_shape s t (Target.Array a) shape = shape_with_cells s t a (cells_of s a) shape (sym (shape.cells a))
+
+pub shape_sym : (s t : Configuration) → SameShape s t → SameShape t s
+shape_sym s t shape = record {
+  living = sym shape.living;
+  globals = sym shape.globals;
+  arrays = sym shape.arrays;
+  cells = λ a. sym (shape.cells a);
+}
+
+pub has_target_shape : (s t : Configuration) (target : Target) → SameShape s t → HasTarget s target → HasTarget t target
+has_target_shape s t (Target.Global g) shape there = let e = shape.globals in omega arith
+has_target_shape s t (Target.Array a) shape there =
+    let e = shape.arrays in
+    (omega (arith, there.0), shape.cells a ∙ there.1 ∙ ap length (sym shape.living))
+
+-- a firing keeps the slots
+pub fired_shape : (s : Configuration) (params : List ℕ) (us : List Update) (pick : Slot → Option Val) → SameShape s (fired s params us pick)
+fired_shape s params us pick = record {
+  living = refl;
+  globals = length-map_from (global_after s params us pick) 0 s.globals;
+  arrays = length-map_from (cells_after s params us pick) 0 s.arrays;
+  cells = cells;
+}
+  where
+    cells : (a : ℕ) → length (cells_of (fired s params us pick) a) ≡ length (cells_of s a)
+    cells a =
+        elim (cases_lt a (length s.arrays)) as (λ _. length (cells_of (fired s params us pick) a) ≡ length (cells_of s a)) [
+          inl within ↦
+            ap length (get_or-map_from_zero (cells_after s params us pick) s.arrays a [] [] within)
+            ∙ length-map_from (cell_after s params (update_of us (Target.Array a)) pick a) 0 (cells_of s a)
+        | inr past ↦
+            ap length (get_or_past (map_from (cells_after s params us pick) 0 s.arrays) a [] (let l = length-map_from (cells_after s params us pick) 0 s.arrays in omega arith))
+            ∙ ap length (sym (get_or_past s.arrays a [] past))
+        ]

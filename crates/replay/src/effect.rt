@@ -2,13 +2,17 @@
 //! put over them, since their slots are those that an update leaves as they are; then the updated slots go back, and
 //! state and copy agree again. A step thus costs what the cells of the updated arrays cost, twice, and never the rest.
 
-ghost use Rattle.std.specs.Prelude.{◌≡◌, ◌+◌, ◌+ℤ◌, ◌≤◌, ◌<◌, ◌^◌, [], ◌∷◌, ◌++◌, Some, None, length, unsigned_abs, All};
+ghost use Rattle.std.specs.Prelude.{◌≡◌, ◌+◌, ◌+ℤ◌, ◌≤◌, ◌<◌, ◌^◌, [], ◌∷◌, ◌++◌, Some, None, length, unsigned_abs, All, IsTrue};
 ghost use Rattle.cub_proto.specs.declared.state.Slot.TheVariants as Slot;
 ghost use Rattle.cub_proto.specs.declared.transition.Target.TheVariants as Target;
 ghost use Rattle.cub_proto.specs.Configuration.{process_count, value_at, cells_of, HasSlot, put};
-ghost use Rattle.cub_proto.specs.Effect.{settled, updated, cell_after};
+ghost use Rattle.cub_proto.specs.Effect.{settled, updated, cell_after, fired, picked};
 ghost use Rattle.replay.specs.Reads.{ReadsValue, ReadsUpdate, ReadsTarget, ReadsUpdates};
 ghost use Rattle.replay.specs.Writes.{SameShape, HasTarget, with_cells, new_cells, written_at, written, placed, copied_at, copied};
+
+ghost use Rattle.cub_proto.specs.Fits.{targets_rise};
+ghost use Rattle.cub_proto.specs.Legal.{picks_rise};
+ghost use Rattle.replay.specs.Fault.{is_allowed};
 
 use crate::fault_at::{counting, widened};
 use cub_proto::{Chosen, Slot, State, Target, Update, Val, Value, integer_at, process_at, term_value};
@@ -138,4 +142,20 @@ pub fn copy_targets(from: &State, to: &mut State, updates: &[Update])
     for update in updates {
         copy_target(from, to, update.target);
     }
+}
+
+/// Fires the updates with the picks, in both states.
+pub fn fire(state: &mut State, twin: &mut State, updates: &[Update], params: &[u32], picks: &[Chosen])
+    requires few { length params.now ≤ 3 }
+    requires twin { twin.old ≡ state.old }
+    requires reads { ReadsUpdates state.old params.now updates.now }
+    requires targets { IsTrue (targets_rise updates.now) }
+    requires rising { IsTrue (picks_rise picks.now) }
+    requires allowed { All (λ c. IsTrue (is_allowed state.old updates.now params.now c)) picks.now }
+    ensures state { state.new ≡ fired state.old params.now updates.now (picked picks.now) }
+    ensures twin { twin.new ≡ state.new }
+{
+    write_updates(state, twin, params, updates);
+    place_picks(twin, picks);
+    copy_targets(twin, state, updates);
 }
