@@ -9,4 +9,5 @@ pub mod Fired
 pub mod Slots
 pub mod Passes
 pub mod Reading
+pub mod LegalFault
 pub mod Counting

@@ -75,3 +75,17 @@ picked_here done c fresh =
     ap (option_map (λ d. d.val)) (find-append (λ d. same_slot d.slot c.slot) done (c ∷ [])
     ∙ ap (λ o. option_or o (cond (same_slot c.slot c.slot) (Some c) None)) fresh
     ∙ ap (λ t. cond t (Some c) None) (slot_same c.slot))
+
+cell_is : (a i b j : ℕ) → same_slot (Slot.Cell a i) (Slot.Cell b j) ≡ true → Slot.Cell a i ≡ Slot.Cell b j
+cell_is a i b j h =
+    (elim (a == b) as (λ t. (a == b) ≡ t → cond t (i == j) false ≡ true → Slot.Cell a i ≡ Slot.Cell b j) [
+      true ↦ λ e f. (let x = eqb-true a b e in let y = eqb-true i j f in ap (λ n. Slot.Cell n i) x ∙ ap (Slot.Cell b) y)
+    | false ↦ λ e f. absurd (let g : false ≡ true = f in cc)
+    ]) refl h
+
+-- the test of slots is equality
+pub slot_is : (a b : Slot) → same_slot a b ≡ true → a ≡ b
+slot_is (Slot.Global g) (Slot.Global h) e = ap (λ n. Slot.Global n) (eqb-true g h e)
+slot_is (Slot.Global g) (Slot.Cell b j) e = absurd (let f : false ≡ true = e in cc)
+slot_is (Slot.Cell a i) (Slot.Global h) e = absurd (let f : false ≡ true = e in cc)
+slot_is (Slot.Cell a i) (Slot.Cell b j) e = cell_is a i b j e
