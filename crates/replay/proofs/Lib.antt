@@ -10,4 +10,5 @@ pub mod Slots
 pub mod Passes
 pub mod Reading
 pub mod LegalFault
+pub mod Within
 pub mod Counting
