@@ -11,4 +11,6 @@ pub mod Passes
 pub mod Reading
 pub mod LegalFault
 pub mod Within
+pub mod Applied
+pub mod Ready
 pub mod Counting

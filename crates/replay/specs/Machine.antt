@@ -7,7 +7,7 @@ use Rattle.cub_proto.specs.Configuration.{Configuration}
 use Rattle.cub_proto.specs.StateOf.{IsStateOf}
 use Rattle.cub_proto.specs.Legal.{AreLegal, after_all}
 use Rattle.cub_proto.specs.Meets.{Satisfies}
-use Rattle.replay.specs.declared.fault.StepFault.{StepFault}
+use Rattle.replay.specs.declared.fault.Refused.{Refused}
 use Rattle.replay.specs.Bound.{IsWithin, bound_after, most_events}
 use Rattle.replay.specs.Fault.{fault_at}
 
@@ -36,3 +36,11 @@ after_events m events count = record m {
   state = after_all m.protocol m.state (take count events);
   accepted = m.accepted + count;
 }
+
+-- the event with that number is the first that is not legal: the machine stopped before it, and it has the fault there
+pub record IsFirstRefused (old new : Replay) (events : List Event) (refused : Refused) : Type 0 where
+  pub legal : AreLegal old.protocol old.state (take refused.number events)
+  pub left : new ≡ after_events old events refused.number
+  pub event : Event
+  pub is_there : slice_get events refused.number ≡ Some event
+  pub fault : fault_at old.protocol new.state event ≡ Some refused.fault

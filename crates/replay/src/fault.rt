@@ -24,3 +24,10 @@ pub enum StepFault {
     /// The slot of the first pick that is not allowed.
     Pick { slot: Slot },
 }
+
+/// The first event of a list that is refused: its number, from 0, and its fault.
+#[derive(Clone, Copy, Debug, PartialEq, Eq)]
+pub struct Refused {
+    pub number: u32,
+    pub fault: StepFault,
+}

@@ -1,23 +1,29 @@
-//! Replays events one by one.
+//! Replays the events of a run one by one from a start state: which are legal, what state they leave, and why the first
+//! that is not legal is refused.
 #![tactic(auto)]
 
 // Why a start state or an event is refused.
 mod fault;
 
-pub use fault::{StartFault, StepFault};
+pub use fault::{Refused, StartFault, StepFault};
 
 // Whether events may be given to a machine.
 mod fits;
 
 pub use fits::{fit_events, fits_event, picks_rise};
 
-// The first fault of an event.
-mod fault_at;
-
-// What a firing writes.
-mod effect;
-
-// The replay.
+// The machine: a start state, events, what they left.
 mod machine;
 
 pub use machine::Machine;
+
+// Its parts: the start formula, the first fault of an event, its effect, one event, unsafe states.
+mod start;
+
+mod fault_at;
+
+mod effect;
+
+mod step;
+
+mod unsafe_state;

@@ -2,7 +2,6 @@ use Rattle.std.proofs.Common.{◌≡◌, sym, subst}
 use Rattle.cub_proto.specs.Effect.{counting}
 use Rattle.replay.specs.Reads.{ReadsValue}
 use Rattle.replay.proofs.Counting.{of_chosen}
-use Rattle.replay.proofs.Within.{fired_within}
 use Rattle.replay.proofs.effect.updated.Goals as goal
 
 pub settled-requires : goal.settled-requires
