@@ -13,4 +13,5 @@ pub mod LegalFault
 pub mod Within
 pub mod Applied
 pub mod Ready
+pub mod Runs
 pub mod Counting
