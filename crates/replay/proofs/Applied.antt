@@ -23,7 +23,6 @@ transition_at p number t there =
     subst (λ x. IsTrue (transition_fits (signature_of p) x)) (get_or_from_slice_get p.transitions number t t there) (p.transitions_fit number t within)
 
 module _ (p : Protocol) (s : Configuration) (e : Event) (number : ℕ) (params : List ℕ) (picks : List Chosen) (is_event : e ≡ Fire number params picks) (fits : FitsEvent p (process_count s) e) (t : Transition) (is : t ≡ get_or p.transitions number t) where
-
   parts_here : FitsParts p (process_count s) (slice_get p.transitions number) params picks
   parts_here =
       fits_parts p (process_count s) (slice_get p.transitions number) params picks (subst (FitsEvent p (process_count s)) is_event fits)

@@ -9,7 +9,6 @@ use Rattle.replay.proofs.Lists.{length_mix, mix_more, mix_whole}
 use Rattle.replay.proofs.Shapes.{put_cell, has_cell_there}
 
 module _ (t : Configuration) (a i : ℕ) (ys : List Val) (there : a < length t.arrays) (same : length (cells_of t a) ≡ length ys) where
-
   pub cells_there : (u : Configuration) → u ≡ with_cells t a (take i ys ++ drop i (cells_of t a)) → i < length ys → HasSlot u (Slot.Cell a i)
   cells_there u is h =
       let e = length_mix ys (cells_of t a) i (omega arith) same in

@@ -13,6 +13,6 @@ pub of_chosen : (P : Value → Type 0) (s : Configuration) (places : List ℕ) (
 of_chosen P s places [] last each at_last = at_last
 of_chosen P s places (b ∷ bs) last each at_last =
     elim (all_true s places b.cond) as (λ t. P (if t then b.value else chosen s places bs last)) [
-      true ↦ All-head (λ b. P b.value) b bs each
-    | false ↦ of_chosen P s places bs last (All-tail (λ b. P b.value) b bs each) at_last
+      | true ↦ All-head (λ b. P b.value) b bs each
+      | false ↦ of_chosen P s places bs last (All-tail (λ b. P b.value) b bs each) at_last
     ]

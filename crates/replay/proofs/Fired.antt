@@ -40,20 +40,22 @@ map_from_set {A} {B} f g xs i v d within others here = same_lists (map_from g 0 
   where
     old_length : length (map_from f 0 xs) ≡ length xs
     old_length = length-map_from f 0 xs
+
     lengths : length (map_from g 0 xs) ≡ length (set (map_from f 0 xs) i v)
     lengths = length-map_from g 0 xs ∙ sym old_length ∙ sym (length-set (map_from f 0 xs) i v)
+
     at : (k : ℕ) (e : B) → k < length (map_from g 0 xs) → get_or (map_from g 0 xs) k e ≡ get_or (set (map_from f 0 xs) i v) k e
     at k e h =
         let l = length-map_from g 0 xs in
         let inside : k < length xs = omega arith in
         elim (cases_eq k i) as (λ _. get_or (map_from g 0 xs) k e ≡ get_or (set (map_from f 0 xs) i v) k e) [
-          inl same ↦
-            get_or-map_from_zero g xs k d e inside ∙ ap (λ n. g n (get_or xs n d)) same ∙ here
-            ∙ sym (get_or-set_same (map_from f 0 xs) i v e (omega (arith, old_length)))
-            ∙ ap (λ n. get_or (set (map_from f 0 xs) i v) n e) (sym same)
-        | inr differ ↦
-            get_or-map_from_zero g xs k d e inside ∙ others k (get_or xs k d) differ
-            ∙ sym (get_or-map_from_zero f xs k d e inside) ∙ sym (get_or-set_other (map_from f 0 xs) i k v e differ)
+          | inl same ↦
+              get_or-map_from_zero g xs k d e inside ∙ ap (λ n. g n (get_or xs n d)) same ∙ here
+              ∙ sym (get_or-set_same (map_from f 0 xs) i v e (omega (arith, old_length)))
+              ∙ ap (λ n. get_or (set (map_from f 0 xs) i v) n e) (sym same)
+          | inr differ ↦
+              get_or-map_from_zero g xs k d e inside ∙ others k (get_or xs k d) differ
+              ∙ sym (get_or-map_from_zero f xs k d e inside) ∙ sym (get_or-set_other (map_from f 0 xs) i k v e differ)
         ]
 
 -- without updates nothing changes
@@ -69,12 +71,11 @@ fired_nothing s params pick =
     (λ a cells. map_from_id (cell_after s params None pick a) 0 cells (cell_stays s params pick a)))
 
 module _ (s : Configuration) (params : List ℕ) (pick : Slot → Option Val) (done : List Update) (u : Update) where
-
   -- one more update changes the slots of its target
   pub more_at : (target : Target) → u.target ≡ target → update_of done target ≡ None → HasTarget s target → (t : Configuration)
-    → ((g : ℕ) → target ≡ Target.Global g → value_at t (Slot.Global g) ≡ updated s params (Some u) (pick (Slot.Global g)) (value_at s (Slot.Global g)))
-    → ((a : ℕ) → target ≡ Target.Array a → cells_of t a ≡ map_from (cell_after s params (Some u) pick a) 0 (cells_of s a))
-    → fired s params (done ++ u ∷ []) pick ≡ copied_at t (fired s params done pick) target
+      → ((g : ℕ) → target ≡ Target.Global g → value_at t (Slot.Global g) ≡ updated s params (Some u) (pick (Slot.Global g)) (value_at s (Slot.Global g)))
+      → ((a : ℕ) → target ≡ Target.Array a → cells_of t a ≡ map_from (cell_after s params (Some u) pick a) 0 (cells_of s a))
+      → fired s params (done ++ u ∷ []) pick ≡ copied_at t (fired s params done pick) target
   more_at (Target.Global g) is fresh there t globals arrays =
       ap (λ vs. record s { globals = vs; arrays = map_from (cells_after s params (done ++ u ∷ []) pick) 0 s.arrays })
       (map_from_set (global_after s params done pick) (global_after s params (done ++ u ∷ []) pick) s.globals g (value_at t (Slot.Global g)) (Con 0) there

@@ -17,8 +17,8 @@ pub found_fits : {X : Type 0} (P : X → Type 0) (test : X → Bool) (xs : List 
 found_fits P test [] y each h = absurd (let e : None ≡ Some y = h in cc)
 found_fits {X} P test (x ∷ xs) y each h =
     (elim (test x) as (λ t. test x ≡ t → cond t (Some x) (find test xs) ≡ Some y → P y × (test y ≡ true)) [
-      true ↦ λ is found. here is found
-    | false ↦ λ is found. found_fits P test xs y (All-tail P x xs each) found
+      | true ↦ λ is found. here is found
+      | false ↦ λ is found. found_fits P test xs y (All-tail P x xs each) found
     ]) refl h
   where
     here : test x ≡ true → Some x ≡ Some y → P y × (test y ≡ true)
@@ -31,8 +31,8 @@ pub none_found : {X : Type 0} (test : X → Bool) (xs : List X) → find test xs
 none_found test [] h = All-nil (λ x. test x ≡ false)
 none_found {X} test (x ∷ xs) h =
     (elim (test x) as (λ t. test x ≡ t → cond t (Some x) (find test xs) ≡ None → All (λ y. test y ≡ false) (x ∷ xs)) [
-      true ↦ λ is found. absurd (let e : Some x ≡ None = found in cc)
-    | false ↦ λ is found. All-cons (λ y. test y ≡ false) x xs is (none_found test xs found)
+      | true ↦ λ is found. absurd (let e : Some x ≡ None = found in cc)
+      | false ↦ λ is found. All-cons (λ y. test y ≡ false) x xs is (none_found test xs found)
     ]) refl h
 
 pub find_none : {X : Type 0} (test : X → Bool) (xs : List X) → All (λ x. test x ≡ false) xs → find test xs ≡ None

@@ -104,9 +104,9 @@ repeat_distinct : (earlier is : List ℕ) → AllPairs (λ i j. i ≢ j) earlier
 repeat_distinct earlier [] distinct h = subst (AllPairs (λ i j. i ≢ j)) (sym (append-nil earlier)) distinct
 repeat_distinct earlier (i ∷ is) distinct h =
     (elim (is_among earlier i) as (λ t. is_among earlier i ≡ t → cond t (Some i) (first_repeat_after (earlier ++ i ∷ []) is) ≡ None → AllPairs (λ a b. a ≢ b) (earlier ++ i ∷ is)) [
-      true ↦ λ e none. absurd (let f : Some i ≡ None = none in cc)
-    | false ↦ λ e none. subst (AllPairs (λ a b. a ≢ b)) (append_assoc earlier (i ∷ []) is)
-        (repeat_distinct (earlier ++ i ∷ []) is (all_pairs_push (λ a b. a ≢ b) earlier i distinct (among_differs earlier i e)) none)
+      | true ↦ λ e none. absurd (let f : Some i ≡ None = none in cc)
+      | false ↦ λ e none. subst (AllPairs (λ a b. a ≢ b)) (append_assoc earlier (i ∷ []) is)
+          (repeat_distinct (earlier ++ i ∷ []) is (all_pairs_push (λ a b. a ≢ b) earlier i distinct (among_differs earlier i e)) none)
     ]) refl h
 
 distinct_repeat : (earlier is : List ℕ) → AllPairs (λ i j. i ≢ j) (earlier ++ is) → first_repeat_after earlier is ≡ None
@@ -114,8 +114,8 @@ distinct_repeat earlier [] distinct = refl
 distinct_repeat earlier (i ∷ is) distinct =
     let whole = length-append earlier (i ∷ is) in
     let apart : (k d : ℕ) → k < length earlier → get_or earlier k d ≢ i = λ k d within same.
-      distinct k (length earlier) d within (omega arith)
-      (get_or_append_left earlier (i ∷ is) d k within ∙ same ∙ sym (get_or_at earlier i is d (length earlier) refl)) in
+    distinct k (length earlier) d within (omega arith)
+    (get_or_append_left earlier (i ∷ is) d k within ∙ same ∙ sym (get_or_at earlier i is d (length earlier) refl)) in
     ap (λ t. cond t (Some i) (first_repeat_after (earlier ++ i ∷ []) is)) (not_among earlier i apart)
     ∙ distinct_repeat (earlier ++ i ∷ []) is (subst (AllPairs (λ a b. a ≢ b)) (sym (append_assoc earlier (i ∷ []) is)) distinct)
 
@@ -152,8 +152,8 @@ others_true s others params h i alive absent =
     let free = range_none (is_blocking s others params) (process_count s) h i (alive_within s i alive) in
     let among = not_contained params i absent in
     let here : not (any_true s (params ++ i ∷ []) others) ≡ false =
-      sym (ap (λ t. t && not (is_among params i) && not (any_true s (params ++ i ∷ []) others)) alive
-      ∙ ap (λ t. not t && not (any_true s (params ++ i ∷ []) others)) among) ∙ free in
+    sym (ap (λ t. t && not (is_among params i) && not (any_true s (params ++ i ∷ []) others)) alive
+    ∙ ap (λ t. not t && not (any_true s (params ++ i ∷ []) others)) among) ∙ free in
     not-false (any_true s (params ++ i ∷ []) others) here
 
 blocks_not : (s : Configuration) (others : List (List Lit)) (params : List ℕ) → ((i : ℕ) → IsAlive s i → (Contains params i → ⊥) → IsTrue (any_true s (params ++ i ∷ []) others)) → (i : ℕ) (alive among : Bool) → is_alive s i ≡ alive → is_among params i ≡ among → (alive && not among && not (any_true s (params ++ i ∷ []) others)) ≡ false
@@ -254,7 +254,6 @@ picked_own (c ∷ cs) rise =
     (slot_before_differs c.slot (get_or cs k d).slot (before k d within)) ∙ own k d within)
 
 module _ (p : Protocol) (s : Configuration) (t : Transition) (params : List ℕ) (picks : List Chosen) where
-
   all_allowed : first_refused s t.updates params picks ≡ None → All (λ c. is_allowed s t.updates params c ≡ true) picks
   all_allowed h =
       All-weaker (λ c. not (is_allowed s t.updates params c) ≡ false) (λ c. is_allowed s t.updates params c ≡ true)
@@ -297,24 +296,24 @@ module _ (p : Protocol) (s : Configuration) (t : Transition) (params : List ℕ)
         guard = none.guard;
         others = others_true s t.others params none.others;
         picks = λ slot v is.
-          (let from = picked_from (λ c. (slot_takes p (process_count s) c.slot c.val ≡ true) × (is_allowed s t.updates params c ≡ true)) picks slot v both is in
-          let parts = and_parts (is_free_slot s t.updates params (from.0).slot) (is_no_dead s (from.0).val) from.1.1 in
-          subst (λ w. MayPick p s t.updates params w v) from.2
-          (subst (λ w. MayPick p s t.updates params (from.0).slot w) from.3
-          (may_pick p s t.updates params (from.0).slot (from.0).val from.1.0 parts.0 parts.1)));
+            (let from = picked_from (λ c. (slot_takes p (process_count s) c.slot c.val ≡ true) × (is_allowed s t.updates params c ≡ true)) picks slot v both is in
+            let parts = and_parts (is_free_slot s t.updates params (from.0).slot) (is_no_dead s (from.0).val) from.1.1 in
+            subst (λ w. MayPick p s t.updates params w v) from.2
+            (subst (λ w. MayPick p s t.updates params (from.0).slot w) from.3
+            (may_pick p s t.updates params (from.0).slot (from.0).val from.1.0 parts.0 parts.1)));
       }
 
   pub fires_not : picks_rise picks ≡ true → MayFire p s t params (picked picks) → firing_fault s t params picks ≡ None
   fires_not rise may =
       let own = picked_own picks rise in
       let allowed : All (λ c. is_allowed s t.updates params c ≡ true) picks = λ k d within.
-        (let c = get_or picks k d in
-        let parts = pick_may p s t.updates params c.slot c.val (may.picks c.slot c.val (own k d within)) in
-        and_from (is_free_slot s t.updates params c.slot) (is_no_dead s c.val) parts.0 parts.1) in
+      (let c = get_or picks k d in
+      let parts = pick_may p s t.updates params c.slot c.val (may.picks c.slot c.val (own k d within)) in
+      and_from (is_free_slot s t.updates params c.slot) (is_no_dead s c.val) parts.0 parts.1) in
       let refused : first_refused s t.updates params picks ≡ None =
-        find_none (λ c. not (is_allowed s t.updates params c)) picks
-        (All-weaker (λ c. is_allowed s t.updates params c ≡ true) (λ c. not (is_allowed s t.updates params c) ≡ false)
-        (λ c e. not_from_true (is_allowed s t.updates params c) e) picks allowed) in
+      find_none (λ c. not (is_allowed s t.updates params c)) picks
+      (All-weaker (λ c. is_allowed s t.updates params c ≡ true) (λ c. not (is_allowed s t.updates params c) ≡ false)
+      (λ c e. not_from_true (is_allowed s t.updates params c) e) picks allowed) in
       ap (λ o. option_or (option_map (λ i. Dead i) o) (option_or (option_map (λ i. Equal i) (first_repeat params))
       (option_or (guard_fault (any_true s params t.guard)) (option_or (option_map (λ i. Other i) (first_blocking s t.others params))
       (option_map (λ c. Pick c.slot) (first_refused s t.updates params picks)))))) (none_dead s params may.parameters.alive)

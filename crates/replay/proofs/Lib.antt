@@ -14,4 +14,5 @@ pub mod Within
 pub mod Applied
 pub mod Ready
 pub mod Runs
+pub mod Started
 pub mod Counting

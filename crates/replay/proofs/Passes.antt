@@ -30,7 +30,6 @@ abbrev pub nothing : Slot → Option Val
 nothing slot = None
 
 module _ (s : Configuration) (params : List ℕ) (pick : Slot → Option Val) (done us : List Update) (u : Update) (rise : targets_rise (done ++ u ∷ us) ≡ true) (there : HasTarget s u.target) where
-
   value_here : (g : ℕ) → u.target ≡ Target.Global g → value_at (fired s params (done ++ u ∷ us) pick) (Slot.Global g) ≡ updated s params (Some u) (pick (Slot.Global g)) (value_at s (Slot.Global g))
   value_here g is =
       get_or-map_from_zero (global_after s params (done ++ u ∷ us) pick) s.globals g (Con 0) (Con 0) (subst (HasTarget s) is there)
@@ -49,9 +48,9 @@ module _ (s : Configuration) (params : List ℕ) (pick : Slot → Option Val) (d
       sym (more_at s params pick done u u.target refl (fresh_target done us u rise) there (fired s params (done ++ u ∷ us) pick) value_here cells_here)
 
 written_copied : (s : Configuration) (params : List ℕ) (u : Update) (t f : Configuration) (target : Target)
-  → ((g : ℕ) → target ≡ Target.Global g → value_at f (Slot.Global g) ≡ updated s params (Some u) None (value_at s (Slot.Global g)))
-  → ((a : ℕ) → target ≡ Target.Array a → cells_of f a ≡ map_from (cell_after s params (Some u) nothing a) 0 (cells_of s a))
-  → written_at s params u t target ≡ copied_at f t target
+    → ((g : ℕ) → target ≡ Target.Global g → value_at f (Slot.Global g) ≡ updated s params (Some u) None (value_at s (Slot.Global g)))
+    → ((a : ℕ) → target ≡ Target.Array a → cells_of f a ≡ map_from (cell_after s params (Some u) nothing a) 0 (cells_of s a))
+    → written_at s params u t target ≡ copied_at f t target
 written_copied s params u t f (Target.Global g) globals arrays = ap (put t (Slot.Global g)) (sym (globals g refl))
 written_copied s params u t f (Target.Array a) globals arrays = ap (with_cells t a) (sym (arrays a refl))
 
@@ -117,7 +116,6 @@ free_there s us params (Slot.Cell a i) h there =
     (has.0, omega (arith, has.1))
 
 module _ (s : Configuration) (params : List ℕ) (us : List Update) (pick next : Slot → Option Val) where
-
   cells_same : (a : ℕ) → ((k : ℕ) → next (Slot.Cell a k) ≡ pick (Slot.Cell a k)) → (cells : List Val) → cells_after s params us next a cells ≡ cells_after s params us pick a cells
   cells_same a same cells =
       map_from_same (cell_after s params (update_of us (Target.Array a)) pick a) (cell_after s params (update_of us (Target.Array a)) next a) 0 cells

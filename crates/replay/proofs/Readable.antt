@@ -52,7 +52,6 @@ zip_at R (x ∷ xs) (y ∷ ys) zero d e h within = h.0
 zip_at R (x ∷ xs) (y ∷ ys) (suc i) d e h within = zip_at R xs ys i d e h.1 (omega arith)
 
 module _ (p : Protocol) (s : Configuration) (state : IsStateOf p s) where
-
   pub global_there : (g : ℕ) → is_some (declared_sort p.globals g) ≡ true → g < length s.globals
   global_there g h =
       omega (arith, declared_within p.globals g h, AllZip-long _ p.globals s.globals state.globals_fit)
@@ -77,7 +76,6 @@ fills_more s places width i fills within = record {
 }
 
 module _ (p : Protocol) (s : Configuration) (state : IsStateOf p s) (width : ℕ) (places : List ℕ) (fills : Fills s places width) where
-
   pub has_cell : (a place : ℕ) → is_some (declared_sort p.arrays a) ≡ true → nat_lt place width ≡ true → HasTerm s places (Term.Cell a place)
   has_cell a place h below =
       let there = array_there p s state a h in

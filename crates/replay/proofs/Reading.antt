@@ -55,9 +55,7 @@ side_within s bound within places (At t) h =
     omega (arith, integer_size (term_value s places t), term_within s bound within places t h)
 
 module _ (p : Protocol) (s : Configuration) (state : IsStateOf p s) (bound : ℕ) (within : IsWithin bound s) (room : bound + greatest_constant ≤ 2 ^ 62) where
-
   module _ (width : ℕ) (places : List ℕ) (fills : Fills s places width) where
-
     reads_sum : (base : ISide) (add : ℤ) → (integer_side_fits (signature_of p) width base && nat_le (unsigned_abs add) greatest_constant) ≡ true → ReadsValue s places (Value.Sum base add)
     reads_sum base add h =
         let parts = and_parts (integer_side_fits (signature_of p) width base) (nat_le (unsigned_abs add) greatest_constant) h in
@@ -86,18 +84,17 @@ module _ (p : Protocol) (s : Configuration) (state : IsStateOf p s) (bound : ℕ
     pub reads_update : (o : Option Sort) (u : Update) → UpdateParts (signature_of p) width o u → ReadsUpdate s places u
     reads_update o u parts = record {
       conditions =
-        All-weaker (λ b. branch_fits (signature_of p) width parts.sort b ≡ true) (λ b. HasLiterals s places b.cond)
-        (λ b h. has_conjunction p s state width places fills b.cond
-        (and_parts (conjunction_fits (signature_of p) width b.cond) (value_fits (signature_of p) width parts.sort b.value) h).0) u.branches parts.branches;
+          All-weaker (λ b. branch_fits (signature_of p) width parts.sort b ≡ true) (λ b. HasLiterals s places b.cond)
+          (λ b h. has_conjunction p s state width places fills b.cond
+          (and_parts (conjunction_fits (signature_of p) width b.cond) (value_fits (signature_of p) width parts.sort b.value) h).0) u.branches parts.branches;
       values =
-        All-weaker (λ b. branch_fits (signature_of p) width parts.sort b ≡ true) (λ b. ReadsValue s places b.value)
-        (λ b h. reads_value parts.sort b.value
-        (and_parts (conjunction_fits (signature_of p) width b.cond) (value_fits (signature_of p) width parts.sort b.value) h).1) u.branches parts.branches;
+          All-weaker (λ b. branch_fits (signature_of p) width parts.sort b ≡ true) (λ b. ReadsValue s places b.value)
+          (λ b h. reads_value parts.sort b.value
+          (and_parts (conjunction_fits (signature_of p) width b.cond) (value_fits (signature_of p) width parts.sort b.value) h).1) u.branches parts.branches;
       last = reads_value parts.sort u.last parts.last;
     }
 
   module _ (params : List ℕ) (count : ℕ) (fills : Fills s params count) where
-
     reads_target : (u : Update) (target : Target) → update_fits_sort (signature_of p) (update_width count target) (target_sort (signature_of p) target) u ≡ true → HasTarget s target × ReadsTarget s params u target
     reads_target u (Target.Global g) h =
         let parts = update_parts (signature_of p) count (declared_sort p.globals g) u h in

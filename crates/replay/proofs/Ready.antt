@@ -32,7 +32,6 @@ within_weaker a b s less within = record {
 }
 
 module _ (p : Protocol) (s : Configuration) (state : IsStateOf p s) (bound : ℕ) (within : IsWithin bound s) where
-
   fire_within : (number : ℕ) (params : List ℕ) (picks : List Chosen) → FitsParts p (process_count s) (slice_get p.transitions number) params picks → fault_of (slice_get p.transitions number) s params picks ≡ None → IsWithin (bound + greatest_constant) (fired_by (slice_get p.transitions number) s params picks)
   fire_within number params picks parts none =
       let t = parts.transition in
@@ -41,9 +40,9 @@ module _ (p : Protocol) (s : Configuration) (state : IsStateOf p s) (bound : ℕ
       let both : All (λ c. (slot_takes p (process_count s) c.slot c.val ≡ true) × (is_allowed s t.updates params c ≡ true)) picks = λ k d inside. (parts.slots k d inside, clean.allowed k d inside) in
       let fills : Fills s params t.params = record { one_each = parts.one_each; processes = parts.inside } in
       let small : (slot : Slot) (v : Val) → picked picks slot ≡ Some v → size_of v ≡ 0 = λ slot v is.
-        (let from = picked_from (λ c. (slot_takes p (process_count s) c.slot c.val ≡ true) × (is_allowed s t.updates params c ≡ true)) picks slot v both is in
-        let free = (and_parts (is_free_slot s t.updates params (from.0).slot) (is_no_dead s (from.0).val) from.1.1).0 in
-        subst (λ w. size_of w ≡ 0) from.3 (allowed_small p s t.updates params t.params (from.0).slot (from.0).val fit from.1.0 free)) in
+      (let from = picked_from (λ c. (slot_takes p (process_count s) c.slot c.val ≡ true) × (is_allowed s t.updates params c ≡ true)) picks slot v both is in
+      let free = (and_parts (is_free_slot s t.updates params (from.0).slot) (is_no_dead s (from.0).val) from.1.1).0 in
+      subst (λ w. size_of w ≡ 0) from.3 (allowed_small p s t.updates params t.params (from.0).slot (from.0).val fit from.1.0 free)) in
       subst (λ o. IsWithin (bound + greatest_constant) (fired_by o s params picks)) (sym parts.is_there)
       (fired_within p s state bound within params t.params fills t.updates fit (picked picks) small)
 

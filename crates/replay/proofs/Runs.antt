@@ -32,7 +32,7 @@ after_events_more m es n e within is =
     ap (λ s. record m { state = s; accepted = (m.accepted + n) + 1 })
     (sym (ap (after_all m.protocol m.state) (one_more es n e within is) ∙ after_all_append m.protocol m.state (take n es) (e ∷ [])))
     ∙ (let sum : (m.accepted + n) + 1 ≡ m.accepted + (n + 1) = omega arith in
-      ap (λ k. record m { state = after_all m.protocol m.state (take (n + 1) es); accepted = k }) sum)
+    ap (λ k. record m { state = after_all m.protocol m.state (take (n + 1) es); accepted = k }) sum)
 
 fired_count : (o : Option Transition) (s : Configuration) (params : List ℕ) (picks : List Chosen) → process_count (fired_by o s params picks) ≡ process_count s
 fired_count None s params picks = refl

@@ -39,15 +39,15 @@ has_cell_there t a i cells h within =
 pub length_cells : (t : Configuration) (a b : ℕ) (cells : List Val) → length cells ≡ length (cells_of t a) → length (cells_of (with_cells t a cells) b) ≡ length (cells_of t b)
 length_cells t a b cells same =
     elim (cases_eq b a) as (λ _. length (cells_of (with_cells t a cells) b) ≡ length (cells_of t b)) [
-      inl e ↦ at_same e
-    | inr ne ↦ ap length (get_or-set_other t.arrays a b cells [] ne)
+      | inl e ↦ at_same e
+      | inr ne ↦ ap length (get_or-set_other t.arrays a b cells [] ne)
     ]
   where
     at_same : b ≡ a → length (cells_of (with_cells t a cells) b) ≡ length (cells_of t b)
     at_same e =
         elim (cases_lt a (length t.arrays)) as (λ _. length (cells_of (with_cells t a cells) b) ≡ length (cells_of t b)) [
-          inl h ↦ ap (λ k. length (cells_of (with_cells t a cells) k)) e ∙ ap length (cells_of_same t a cells h) ∙ same ∙ ap (λ k. length (cells_of t k)) (sym e)
-        | inr h ↦ ap (λ arrays. length (get_or arrays b [])) (set_past t.arrays a cells h)
+          | inl h ↦ ap (λ k. length (cells_of (with_cells t a cells) k)) e ∙ ap length (cells_of_same t a cells h) ∙ same ∙ ap (λ k. length (cells_of t k)) (sym e)
+          | inr h ↦ ap (λ arrays. length (get_or arrays b [])) (set_past t.arrays a cells h)
         ]
 
 pub shape_with_cells : (s t : Configuration) (a : ℕ) (cells : List Val) → SameShape s t → length cells ≡ length (cells_of t a) → SameShape s (with_cells t a cells)
@@ -115,10 +115,10 @@ fired_shape s params us pick = record {
     cells : (a : ℕ) → length (cells_of (fired s params us pick) a) ≡ length (cells_of s a)
     cells a =
         elim (cases_lt a (length s.arrays)) as (λ _. length (cells_of (fired s params us pick) a) ≡ length (cells_of s a)) [
-          inl within ↦
-            ap length (get_or-map_from_zero (cells_after s params us pick) s.arrays a [] [] within)
-            ∙ length-map_from (cell_after s params (update_of us (Target.Array a)) pick a) 0 (cells_of s a)
-        | inr past ↦
-            ap length (get_or_past (map_from (cells_after s params us pick) 0 s.arrays) a [] (let l = length-map_from (cells_after s params us pick) 0 s.arrays in omega arith))
-            ∙ ap length (sym (get_or_past s.arrays a [] past))
+          | inl within ↦
+              ap length (get_or-map_from_zero (cells_after s params us pick) s.arrays a [] [] within)
+              ∙ length-map_from (cell_after s params (update_of us (Target.Array a)) pick a) 0 (cells_of s a)
+          | inr past ↦
+              ap length (get_or_past (map_from (cells_after s params us pick) 0 s.arrays) a [] (let l = length-map_from (cells_after s params us pick) 0 s.arrays in omega arith))
+              ∙ ap length (sym (get_or_past s.arrays a [] past))
         ]

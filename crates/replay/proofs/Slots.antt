@@ -20,18 +20,18 @@ use Rattle.replay.proofs.Found.{or_none}
 pub alive_within : (s : Configuration) (i : ℕ) → is_alive s i ≡ true → i < process_count s
 alive_within s i h =
     elim (cases_lt i (length s.living)) as (λ _. i < process_count s) [
-      inl within ↦ within
-    | inr past ↦ absurd (let e : false ≡ true = sym (get_or_past s.living i false past) ∙ h in cc)
+      | inl within ↦ within
+      | inr past ↦ absurd (let e : false ≡ true = sym (get_or_past s.living i false past) ∙ h in cc)
     ]
 
 cells_differ : (a b i j : ℕ) → slot_before (Slot.Cell a i) (Slot.Cell b j) ≡ true → same_slot (Slot.Cell a i) (Slot.Cell b j) ≡ false
 cells_differ a b i j x =
     elim (or_cases (nat_lt a b) (a == b && nat_lt i j) x) as (λ _. same_slot (Slot.Cell a i) (Slot.Cell b j) ≡ false) [
-      inl less ↦ (let l = ltb-true a b less in cond-false (a == b) (i == j) false (ne_eqb a b (λ e. omega arith)))
-    | inr both ↦
-        (let parts = and_parts (a == b) (nat_lt i j) both in
-        let l = ltb-true i j parts.1 in
-        cond-true (a == b) (i == j) false parts.0 ∙ ne_eqb i j (λ e. omega arith))
+      | inl less ↦ (let l = ltb-true a b less in cond-false (a == b) (i == j) false (ne_eqb a b (λ e. omega arith)))
+      | inr both ↦
+          (let parts = and_parts (a == b) (nat_lt i j) both in
+          let l = ltb-true i j parts.1 in
+          cond-true (a == b) (i == j) false parts.0 ∙ ne_eqb i j (λ e. omega arith))
     ]
 
 pub slot_before_differs : (a b : Slot) → slot_before a b ≡ true → same_slot a b ≡ false
@@ -79,8 +79,8 @@ picked_here done c fresh =
 cell_is : (a i b j : ℕ) → same_slot (Slot.Cell a i) (Slot.Cell b j) ≡ true → Slot.Cell a i ≡ Slot.Cell b j
 cell_is a i b j h =
     (elim (a == b) as (λ t. (a == b) ≡ t → cond t (i == j) false ≡ true → Slot.Cell a i ≡ Slot.Cell b j) [
-      true ↦ λ e f. (let x = eqb-true a b e in let y = eqb-true i j f in ap (λ n. Slot.Cell n i) x ∙ ap (Slot.Cell b) y)
-    | false ↦ λ e f. absurd (let g : false ≡ true = f in cc)
+      | true ↦ λ e f. (let x = eqb-true a b e in let y = eqb-true i j f in ap (λ n. Slot.Cell n i) x ∙ ap (Slot.Cell b) y)
+      | false ↦ λ e f. absurd (let g : false ≡ true = f in cc)
     ]) refl h
 
 -- the test of slots is equality

@@ -67,7 +67,7 @@ counting_fits sig width o s places u parts =
     parts.last
 
 pick_small : (sig : Signature) (n width : ℕ) (s : Configuration) (places : List ℕ) (o : Option Update) (sort : Option Sort) (v : Val)
-  → ((u : Update) → o ≡ Some u → update_fits_sort sig width sort u ≡ true) → is_free s places o ≡ true → is_declared sig n sort v ≡ true → size_of v ≡ 0
+    → ((u : Update) → o ≡ Some u → update_fits_sort sig width sort u ≡ true) → is_free s places o ≡ true → is_declared sig n sort v ≡ true → size_of v ≡ 0
 pick_small sig n width s places None sort v fits free declared = absurd (let e : false ≡ true = free in cc)
 pick_small sig n width s places (Some u) None v fits free declared = absurd (let e : false ≡ true = declared in cc)
 pick_small sig n width s places (Some u) (Some sort) v fits free declared =
@@ -94,12 +94,10 @@ allowed_small p s us params count (Slot.Cell a i) v fit takes free =
     (and_parts (nat_lt i (process_count s)) (is_declared (signature_of p) (process_count s) (declared_sort p.arrays a) v) takes).1
 
 module _ (p : Protocol) (s : Configuration) (state : IsStateOf p s) (bound : ℕ) (within : IsWithin bound s) where
-
   more : ℕ
   more = bound + greatest_constant
 
   module _ (width : ℕ) (places : List ℕ) (fills : Fills s places width) where
-
     settled_within : (sort : Sort) (w : Value) (pick : Option Val) (old : Val) → value_fits (signature_of p) width sort w ≡ true → ((v : Val) → pick ≡ Some v → size_of v ≡ 0) → size_of old ≤ bound → size_of (settled s places w pick old) ≤ bound + greatest_constant
     settled_within (Sort.Fin k) (Value.Con c) pick old fits small h = omega arith
     settled_within Sort.Proc (Value.Con c) pick old fits small h = omega arith
@@ -129,7 +127,6 @@ module _ (p : Protocol) (s : Configuration) (state : IsStateOf p s) (bound : ℕ
         settled_within parts.sort (counting s places u) pick old (counting_fits (signature_of p) width sort s places u parts) small h
 
   module _ (params : List ℕ) (count : ℕ) (fills : Fills s params count) (us : List Update) (fit : All (λ u. update_fits (signature_of p) count u ≡ true) us) (pick : Slot → Option Val) (small : (slot : Slot) (v : Val) → pick slot ≡ Some v → size_of v ≡ 0) where
-
     cell_within : (a k : ℕ) (x : Val) (alive : Bool) → is_alive s k ≡ alive → size_of x ≤ bound → size_of (cond alive (updated s (params ++ k ∷ []) (update_of us (Target.Array a)) (pick (Slot.Cell a k)) x) x) ≤ bound + greatest_constant
     cell_within a k x true is h =
         updated_within (count + 1) (params ++ k ∷ []) (fills_more s params count k fills (alive_within s k is)) (update_of us (Target.Array a)) (declared_sort p.arrays a) (pick (Slot.Cell a k)) x
@@ -139,12 +136,12 @@ module _ (p : Protocol) (s : Configuration) (state : IsStateOf p s) (bound : ℕ
     pub fired_within : IsWithin (bound + greatest_constant) (fired s params us pick)
     fired_within = record {
       globals_within =
-        all_map_from (λ v. size_of v ≤ bound) (λ v. size_of v ≤ bound + greatest_constant) (global_after s params us pick) 0 s.globals
-        (λ g x h. updated_within count params fills (update_of us (Target.Global g)) (declared_sort p.globals g) (pick (Slot.Global g)) x
-        (target_fits (signature_of p) count us (Target.Global g) fit) (small (Slot.Global g)) h) within.globals_within;
+          all_map_from (λ v. size_of v ≤ bound) (λ v. size_of v ≤ bound + greatest_constant) (global_after s params us pick) 0 s.globals
+          (λ g x h. updated_within count params fills (update_of us (Target.Global g)) (declared_sort p.globals g) (pick (Slot.Global g)) x
+          (target_fits (signature_of p) count us (Target.Global g) fit) (small (Slot.Global g)) h) within.globals_within;
       cells_within =
-        all_map_from (AreWithin bound) (AreWithin (bound + greatest_constant)) (cells_after s params us pick) 0 s.arrays
-        (λ a cells each. all_map_from (λ v. size_of v ≤ bound) (λ v. size_of v ≤ bound + greatest_constant)
-        (cell_after s params (update_of us (Target.Array a)) pick a) 0 cells
-        (λ k x h. cell_within a k x (is_alive s k) refl h) each) within.cells_within;
+          all_map_from (AreWithin bound) (AreWithin (bound + greatest_constant)) (cells_after s params us pick) 0 s.arrays
+          (λ a cells each. all_map_from (λ v. size_of v ≤ bound) (λ v. size_of v ≤ bound + greatest_constant)
+          (cell_after s params (update_of us (Target.Array a)) pick a) 0 cells
+          (λ k x h. cell_within a k x (is_alive s k) refl h) each) within.cells_within;
     }

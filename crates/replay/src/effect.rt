@@ -9,13 +9,14 @@ ghost use Rattle.cub_proto.specs.Configuration.{process_count, value_at, cells_o
 ghost use Rattle.cub_proto.specs.Effect.{settled, updated, cell_after, fired, picked};
 ghost use Rattle.replay.specs.Reads.{ReadsValue, ReadsUpdate, ReadsTarget, ReadsUpdates};
 ghost use Rattle.replay.specs.Writes.{SameShape, HasTarget, with_cells, new_cells, written_at, written, placed, copied_at, copied};
-
 ghost use Rattle.cub_proto.specs.Fits.{targets_rise};
 ghost use Rattle.cub_proto.specs.Legal.{picks_rise};
 ghost use Rattle.replay.specs.Fault.{is_allowed};
 
 use crate::fault_at::{counting, widened};
-use cub_proto::{Chosen, Slot, State, Target, Update, Val, Value, integer_at, process_at, term_value};
+use cub_proto::{
+    Chosen, Slot, State, Target, Update, Val, Value, integer_at, process_at, term_value,
+};
 
 fn sum(a: i64, b: i64) -> i64
     requires { unsigned_abs a + unsigned_abs b ≤ 2 ^ 62 }
@@ -145,7 +146,13 @@ pub fn copy_targets(from: &State, to: &mut State, updates: &[Update])
 }
 
 /// Fires the updates with the picks, in both states.
-pub fn fire(state: &mut State, twin: &mut State, updates: &[Update], params: &[u32], picks: &[Chosen])
+pub fn fire(
+    state: &mut State,
+    twin: &mut State,
+    updates: &[Update],
+    params: &[u32],
+    picks: &[Chosen],
+)
     requires few { length params.now ≤ 3 }
     requires twin { twin.old ≡ state.old }
     requires reads { ReadsUpdates state.old params.now updates.now }

@@ -13,7 +13,10 @@ ghost use Rattle.replay.specs.Reads.{IsFiring, ReadsConditions, ReadsUpdates};
 
 use crate::fault::StepFault;
 use arrayvec::ArrayVec;
-use cub_proto::{Branch, Chosen, Protocol, Slot, State, Target, Transition, Update, Val, Value, all_hold, any_holds};
+use cub_proto::{
+    Branch, Chosen, Protocol, Slot, State, Target, Transition, Update, Val, Value, all_hold,
+    any_holds,
+};
 
 /// Whether the process is there and alive.
 pub fn is_alive(state: &State, process: u32) -> bool
@@ -63,17 +66,32 @@ pub fn widened(params: &[u32], process: u32) -> ArrayVec<u32, 4>
     places
 }
 
-fn is_blocking(protocol: &Protocol, state: &State, transition: &Transition, params: &[u32], process: u32) -> bool
+fn is_blocking(
+    protocol: &Protocol,
+    state: &State,
+    transition: &Transition,
+    params: &[u32],
+    process: u32,
+) -> bool
     requires firing { IsFiring protocol.now state.now transition.now params.now }
     requires process { process < process_count state.now }
     ensures { result ≡ is_blocking state.now transition.now.others params.now process }
 {
     is_alive(state, process)
         && !is_among(params, process)
-        && !any_holds(state, transition.others.as_slice(), widened(params, process).as_slice())
+        && !any_holds(
+            state,
+            transition.others.as_slice(),
+            widened(params, process).as_slice(),
+        )
 }
 
-fn first_blocking(protocol: &Protocol, state: &State, transition: &Transition, params: &[u32]) -> Option<u32>
+fn first_blocking(
+    protocol: &Protocol,
+    state: &State,
+    transition: &Transition,
+    params: &[u32],
+) -> Option<u32>
     requires firing { IsFiring protocol.now state.now transition.now params.now }
     ensures { result ≡ first_blocking state.now transition.now.others params.now }
 {
@@ -169,7 +187,12 @@ fn is_allowed(state: &State, updates: &[Update], params: &[u32], pick: &Chosen) 
     }
 }
 
-fn first_refused(state: &State, updates: &[Update], params: &[u32], picks: &[Chosen]) -> Option<Chosen>
+fn first_refused(
+    state: &State,
+    updates: &[Update],
+    params: &[u32],
+    picks: &[Chosen],
+) -> Option<Chosen>
     requires few { length params.now ≤ 3 }
     requires reads { ReadsUpdates state.now params.now updates.now }
     ensures { result ≡ first_refused state.now updates.now params.now picks.now }
@@ -183,7 +206,13 @@ fn first_refused(state: &State, updates: &[Update], params: &[u32], picks: &[Cho
 }
 
 /// The first fault of firing the transition.
-pub fn firing_fault(protocol: &Protocol, state: &State, transition: &Transition, params: &[u32], picks: &[Chosen]) -> Option<StepFault>
+pub fn firing_fault(
+    protocol: &Protocol,
+    state: &State,
+    transition: &Transition,
+    params: &[u32],
+    picks: &[Chosen],
+) -> Option<StepFault>
     requires firing { IsFiring protocol.now state.now transition.now params.now }
     requires few { length params.now ≤ 3 }
     requires reads { ReadsUpdates state.now params.now transition.now.updates }

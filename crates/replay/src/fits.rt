@@ -58,7 +58,8 @@ fn is_declared(protocol: &Protocol, processes: u32, sort: Option<Sort>, val: Val
     }
 }
 
-fn slot_takes(protocol: &Protocol, processes: u32, slot: Slot, val: Val) -> bool
+/// Whether the slot is there, with a value of its sort, where there are `processes` processes.
+pub fn slot_takes(protocol: &Protocol, processes: u32, slot: Slot, val: Val) -> bool
     ensures { result ≡ slot_takes protocol.now processes slot val }
 {
     match slot {
@@ -109,12 +110,16 @@ fn are_processes(processes: u32, params: &[u32]) -> bool
 fn slots_take(protocol: &Protocol, processes: u32, picks: &[Chosen]) -> bool
     ensures { result ≡ list_all (λ c. slot_takes protocol.now processes c.slot c.val) picks.now }
 {
-    picks
-        .iter()
-        .all(|pick| slot_takes(protocol, processes, pick.slot, pick.val))
+    picks.iter().all(|pick| slot_takes(protocol, processes, pick.slot, pick.val))
 }
 
-fn fits_transition(protocol: &Protocol, processes: u32, transition: &Transition, params: &[u32], picks: &[Chosen]) -> bool
+fn fits_transition(
+    protocol: &Protocol,
+    processes: u32,
+    transition: &Transition,
+    params: &[u32],
+    picks: &[Chosen],
+) -> bool
     ensures { result ≡ fits_transition protocol.now processes (Some transition.now) params.now picks.now }
 {
     params.len() == transition.params as usize
@@ -138,7 +143,13 @@ pub fn fits_event(protocol: &Protocol, processes: u32, event: &Event) -> bool
         } => {
             match protocol.transitions.get(*transition as usize) {
                 Some(transition) => {
-                    fits_transition(protocol, processes, transition, params.as_slice(), picks.as_slice())
+                    fits_transition(
+                        protocol,
+                        processes,
+                        transition,
+                        params.as_slice(),
+                        picks.as_slice(),
+                    )
                 }
                 None => false,
             }

@@ -32,21 +32,20 @@ impl<'a> Model for Machine<'a> {
 }
 
 impl<'a> Machine<'a> {
-    ghost use Rattle.cub_proto.specs.Configuration.{process_count, IsAlive};
+    ghost use Rattle.cub_proto.specs.Configuration.{process_count};
     ghost use Rattle.cub_proto.specs.StateOf.{IsStateOf};
     ghost use Rattle.cub_proto.specs.Legal.{IsStart, IsLegal, AreLegal, after};
     ghost use Rattle.replay.specs.declared.fault.StartFault.TheVariants as StartFault;
-    ghost use Rattle.replay.specs.Bound.{IsWithin, greatest_start, most_events};
+    ghost use Rattle.replay.specs.Bound.{most_events};
+    ghost use Rattle.replay.specs.FitsStart.{FitsStart};
     ghost use Rattle.replay.specs.FitsEvent.{FitsEvent};
     ghost use Rattle.replay.specs.Fault.{fault_at};
     ghost use Rattle.replay.specs.Start.{first_unstarted};
     ghost use Rattle.replay.specs.Machine.{MakesUnsafe, IsFirstRefused, after_events};
 
-    /// A replay from a start state. All processes of the state are alive, and its integers are at most 2^60 in size.
+    /// A replay from a start state.
     pub fn new(protocol: &'a Protocol, state: State) -> Result<Machine<'a>, StartFault>
-        requires state_of { IsStateOf protocol.now state }
-        requires alive { (i : ℕ) → i < process_count state → IsAlive state i }
-        requires within { IsWithin greatest_start state }
+        requires { FitsStart protocol.now state }
         ensures ok { IfOk result (λ m. m ≡ record { protocol = protocol.now; state = state; accepted = 0 }) }
         ensures start { OnOk result (IsStart protocol.now state) }
         ensures fault { (i : ℕ) → result ≡ Err (StartFault.Not i) → first_unstarted protocol.now state ≡ Some i }
@@ -73,8 +72,8 @@ impl<'a> Machine<'a> {
         ensures fault { result_err result ≡ fault_at self.old.protocol self.old.state event.now }
         ensures legal { IsOk result ↔ IsLegal self.old.protocol self.old.state event.now }
         ensures ok { OnOk result (self.new ≡ record self.old {
-            state = after self.old.protocol self.old.state event.now;
-            accepted = self.old.accepted + 1;
+          state = after self.old.protocol self.old.state event.now;
+          accepted = self.old.accepted + 1;
         }) }
         ensures err { OnErr result (self.new ≡ self.old) }
     {

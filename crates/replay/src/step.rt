@@ -32,7 +32,14 @@ fn crash(state: &mut State, twin: &mut State, process: u32) -> Result<(), StepFa
     Ok(())
 }
 
-fn fire_transition(protocol: &Protocol, state: &mut State, twin: &mut State, transition: &Transition, params: &[u32], picks: &[Chosen]) -> Result<(), StepFault>
+fn fire_transition(
+    protocol: &Protocol,
+    state: &mut State,
+    twin: &mut State,
+    transition: &Transition,
+    params: &[u32],
+    picks: &[Chosen],
+) -> Result<(), StepFault>
     requires firing { IsFiring protocol.now state.old transition.now params.now }
     requires twin { twin.old ≡ state.old }
     requires within { IsWithin (2 ^ 61) state.old }
@@ -52,7 +59,12 @@ fn fire_transition(protocol: &Protocol, state: &mut State, twin: &mut State, tra
 }
 
 /// Changes the state and its copy as the event does, if it has no fault.
-pub fn apply(protocol: &Protocol, state: &mut State, twin: &mut State, event: &Event) -> Result<(), StepFault>
+pub fn apply(
+    protocol: &Protocol,
+    state: &mut State,
+    twin: &mut State,
+    event: &Event,
+) -> Result<(), StepFault>
     requires state_of { IsStateOf protocol.now state.old }
     requires twin { twin.old ≡ state.old }
     requires within { IsWithin (2 ^ 61) state.old }
@@ -70,7 +82,14 @@ pub fn apply(protocol: &Protocol, state: &mut State, twin: &mut State, event: &E
             picks,
         } => {
             let transition = &protocol.transitions.as_slice()[*transition as usize];
-            fire_transition(protocol, state, twin, transition, params.as_slice(), picks.as_slice())
+            fire_transition(
+                protocol,
+                state,
+                twin,
+                transition,
+                params.as_slice(),
+                picks.as_slice(),
+            )
         }
     }
 }

@@ -20,10 +20,10 @@ loop-pick-preserved c =
     let shape = shape_put next next pick.slot pick.val (shape_same next) in
     record {
       rest =
-        ap (λ t. placed t (drop (i + 1) picks)) c.set.ensures
-        ∙ sym (at_drop_more (placed next) picks i none c.loop-pick-test.true) ∙ inv.rest;
+          ap (λ t. placed t (drop (i + 1) picks)) c.set.ensures
+          ∙ sym (at_drop_more (placed next) picks i none c.loop-pick-test.true) ∙ inv.rest;
       there =
-        subst (λ t. All (λ p. HasSlot t p.slot) picks) (sym c.set.ensures)
-        (All-weaker (λ p. HasSlot next p.slot) (λ p. HasSlot (put next pick.slot pick.val) p.slot)
-        (λ p h. has_slot_shape next (put next pick.slot pick.val) p.slot shape h) picks inv.there);
+          subst (λ t. All (λ p. HasSlot t p.slot) picks) (sym c.set.ensures)
+          (All-weaker (λ p. HasSlot next p.slot) (λ p. HasSlot (put next pick.slot pick.val) p.slot)
+          (λ p h. has_slot_shape next (put next pick.slot pick.val) p.slot shape h) picks inv.there);
     }

@@ -15,8 +15,8 @@ loop-update-preserved c =
     let inv = c.loop-update.invariant in
     record {
       rest =
-        ap (λ t. written s params t (drop (i + 1) us)) c.write_update.ensures
-        ∙ ap (λ v. written s params (written_at s params v next v.target) (drop (i + 1) us)) c.update-item.is
-        ∙ sym (at_drop_more (written s params next) us i u c.loop-update-test.true) ∙ inv.rest;
+          ap (λ t. written s params t (drop (i + 1) us)) c.write_update.ensures
+          ∙ ap (λ v. written s params (written_at s params v next v.target) (drop (i + 1) us)) c.update-item.is
+          ∙ sym (at_drop_more (written s params next) us i u c.loop-update-test.true) ∙ inv.rest;
       shape = subst (SameShape s) (sym c.write_update.ensures) (written_at_shape s next params u u.target inv.shape);
     }

@@ -33,7 +33,7 @@ returns-in-Fire-clause-ok c =
     let t = c.index-as_slice-transition.result in
     let is = c.index-as_slice-transition.is ∙ ap (λ ts. get_or ts c.in-Fire.transition t) c.as_slice.ensures in
     let same =
-      ap (λ params. fired s params t.updates (picked c.as_slice-in-Fire-2.result.now)) c.as_slice-in-Fire.ensures
-      ∙ ap (λ picks. fired s c.in-Fire.params t.updates (picked picks)) c.as_slice-in-Fire-2.ensures
-      ∙ sym (after_here p s c.args.event.now c.in-Fire.transition c.in-Fire.params c.in-Fire.picks c.in-Fire.is c.requires.fits t is) in
+    ap (λ params. fired s params t.updates (picked c.as_slice-in-Fire-2.result.now)) c.as_slice-in-Fire.ensures
+    ∙ ap (λ picks. fired s c.in-Fire.params t.updates (picked picks)) c.as_slice-in-Fire-2.ensures
+    ∙ sym (after_here p s c.args.event.now c.in-Fire.transition c.in-Fire.params c.in-Fire.picks c.in-Fire.is c.requires.fits t is) in
     subst (λ x. OnOk c.fire_transition.result (c.fire_transition.new.state ≡ x)) same c.fire_transition.ensures.ok

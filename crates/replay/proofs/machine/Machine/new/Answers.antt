@@ -13,5 +13,5 @@ returns-in-Ok-clause-start c =
       state = c.requires.state_of;
       alive = c.requires.alive;
       begins = λ i within. not-false (any_true s (i ∷ []) p.start)
-        (range_none (λ j. not (any_true s (j ∷ []) p.start)) (process_count s) (sym c.first_unstarted.ensures ∙ c.in_default.is) i within);
+          (range_none (λ j. not (any_true s (j ∷ []) p.start)) (process_count s) (sym c.first_unstarted.ensures ∙ c.in_default.is) i within);
     }

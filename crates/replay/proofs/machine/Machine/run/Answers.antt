@@ -17,7 +17,7 @@ loop-number-preserved c =
     record {
       left = c.in_default.ensures.ok ∙ ap step inv.left ∙ after_events_more m es n e c.loop-number-test.true c.index-events-number.is;
       legal =
-        legal_more m.protocol m.state es n e c.loop-number-test.true c.index-events-number.is inv.legal
-        (subst (λ (r : Replay). IsLegal r.protocol r.state e) inv.left (c.in_default.ensures.legal.0 refl));
+          legal_more m.protocol m.state es n e c.loop-number-test.true c.index-events-number.is inv.legal
+          (subst (λ (r : Replay). IsLegal r.protocol r.state e) inv.left (c.in_default.ensures.legal.0 refl));
       count = ap (λ (r : Replay). process_count r.state) c.in_default.ensures.ok ∙ count_after here.protocol here.state e ∙ inv.count;
     }
