@@ -1,65 +1,39 @@
-//! Replays of two rows: a protocol that needs a crash to become unsafe, and one whose step picks a process. What is
-//! expected stands in these rows.
-
-ghost use Rattle.std.specs.Prelude.{◌≡◌, ◌<◌, ◌≤◌, IfOk};
+//! Replays of one protocol with a universal guard and a step that picks a process. What is expected was worked out with
+//! a plain program that explores states one by one.
 
 use crate::{
     Machine, Refused, StartFault, StepFault, first_state, fit_events, is_start_value, set_start,
 };
 use cub_base::{Items, Name};
 use cub_proto::{
-    Branch, Chosen, Conjs, Decl, Decls, Event, Events, Goal, Goals, Lit, PSide, Protocol, Slot,
-    Sort, SortDecl, SortDecls, Target, Term, Transition, Transitions, Update, Val, Value,
+    Branch, Chosen, Decl, Event, Goal, Lit, PSide, Protocol, Slot, Sort, SortDecl, Target, Term,
+    Transition, Update, Val, Value,
 };
 use std::alloc::{AllocError, Global};
 use std::test::Fail;
 
-const DONE: Term = Term::Global(0);
-
-const OWNER: u16 = 1;
-
-fn name(alloc: Global, bytes: &[u8]) -> Result<Name, AllocError> {
-    Items::from_slice(alloc, bytes)
+fn list<T: Copy>(alloc: Global, items: &[T]) -> Result<Items<T>, AllocError> {
+    Items::from_slice(alloc, items)
 }
 
-fn sort(alloc: Global, own: &[u8], first: &[u8], second: &[u8]) -> Result<SortDecl, AllocError> {
-    let mut cons = Items::new(alloc);
-    cons.push(name(alloc, first)?)?;
-    cons.push(name(alloc, second)?)?;
-    Ok(SortDecl {
-        name: name(alloc, own)?,
-        cons,
-    })
+fn just<T: Drop>(alloc: Global, item: T) -> Result<Items<T>, AllocError> {
+    let mut items = Items::new(alloc);
+    items.push(item)?;
+    Ok(items)
 }
 
-fn sorts(alloc: Global) -> Result<SortDecls, AllocError> {
-    let mut sorts = Items::new(alloc);
-    sorts.push(sort(alloc, b"bool", b"False", b"True")?)?;
-    sorts.push(sort(alloc, b"t", b"Idle", b"Ready")?)?;
-    Ok(sorts)
+fn both<T: Drop>(alloc: Global, first: T, second: T) -> Result<Items<T>, AllocError> {
+    let mut items = just(alloc, first)?;
+    items.push(second)?;
+    Ok(items)
 }
 
-fn globals(alloc: Global) -> Result<Decls, AllocError> {
-    let mut globals = Items::new(alloc);
-    globals.push(Decl {
-        name: name(alloc, b"Done")?,
-        sort: Sort::Fin(0),
-    })?;
-    globals.push(Decl {
-        name: name(alloc, b"X")?,
-        sort: Sort::Proc,
-    })?;
-    Ok(globals)
+fn sort(alloc: Global, name: Name, first: &[u8], second: &[u8]) -> Result<SortDecl, AllocError> {
+    let cons = both(alloc, list(alloc, first)?, list(alloc, second)?)?;
+    Ok(SortDecl { name, cons })
 }
 
-fn arrays(alloc: Global) -> Result<Decls, AllocError> {
-    let mut arrays = Items::new(alloc);
-    arrays.push(Decl {
-        name: name(alloc, b"A")?,
-        sort: Sort::Fin(1),
-    })?;
-    Ok(arrays)
-}
+const OWNER: PSide = PSide::Global(0);
 
 fn cell_in(place: u8, mask: u64) -> Lit {
     Lit::FinIn {
@@ -68,164 +42,110 @@ fn cell_in(place: u8, mask: u64) -> Lit {
     }
 }
 
-fn done_in(mask: u64) -> Lit {
-    Lit::FinIn { term: DONE, mask }
+fn same(a: PSide, b: PSide) -> Lit {
+    Lit::ProcEq { a, b }
 }
 
-fn one(alloc: Global, lits: &[Lit]) -> Result<Conjs, AllocError> {
-    let mut conjs = Items::new(alloc);
-    conjs.push(Items::from_slice(alloc, lits)?)?;
-    Ok(conjs)
-}
-
-fn goals(alloc: Global) -> Result<Goals, AllocError> {
-    let mut goals = Items::new(alloc);
-    goals.push(Goal {
-        width: 0,
-        lits: Items::from_slice(alloc, [done_in(2)].as_slice())?,
-    })?;
-    goals.push(Goal {
-        width: 2,
-        lits: Items::from_slice(alloc, [cell_in(0, 2), cell_in(1, 2)].as_slice())?,
-    })?;
-    Ok(goals)
-}
-
-fn transition(
-    alloc: Global,
-    own: &[u8],
-    params: u8,
-    guard: &[Lit],
-    others: &[Lit],
-    target: Target,
-    branch: Option<Lit>,
-    last: Value,
-) -> Result<Transition, AllocError> {
-    let mut branches = Items::new(alloc);
-    if let Some(lit) = branch {
-        branches.push(Branch {
-            cond: Items::from_slice(alloc, [lit].as_slice())?,
-            value: Value::Con(1),
-        })?;
-        branches.push(Branch {
-            cond: Items::new(alloc),
-            value: Value::Read(Term::Cell(0, params)),
-        })?;
-    }
-    let mut updates = Items::new(alloc);
-    updates.push(Update {
-        target,
-        branches,
-        last,
-    })?;
+/// The owner enters while all others are idle. Behind the branch that counts stands another one that is true.
+fn enter(alloc: Global) -> Result<Transition, AllocError> {
+    let enters = Branch {
+        cond: just(alloc, same(PSide::Place(0), PSide::Place(1)))?,
+        value: Value::Con(1),
+    };
+    let stays = Branch {
+        cond: Items::new(alloc),
+        value: Value::Read(Term::Cell(0, 1)),
+    };
+    let update = Update {
+        target: Target::Array(0),
+        branches: both(alloc, enters, stays)?,
+        last: Value::Con(1),
+    };
     Ok(Transition {
-        name: name(alloc, own)?,
-        params,
-        guard: one(alloc, guard)?,
-        others: one(alloc, others)?,
-        updates,
+        name: list(alloc, b"enter")?,
+        params: 1,
+        guard: just(alloc, just(alloc, same(OWNER, PSide::Place(0)))?)?,
+        others: just(alloc, just(alloc, cell_in(1, 1))?)?,
+        updates: just(alloc, update)?,
     })
 }
 
-fn same(a: u8, b: u8) -> Option<Lit> {
-    Some(Lit::ProcEq {
-        a: PSide::Place(a),
-        b: PSide::Place(b),
+/// Any process becomes the owner.
+fn pass(alloc: Global) -> Result<Transition, AllocError> {
+    let update = Update {
+        target: Target::Global(0),
+        branches: Items::new(alloc),
+        last: Value::Any,
+    };
+    Ok(Transition {
+        name: list(alloc, b"pass")?,
+        params: 0,
+        guard: just(alloc, Items::new(alloc))?,
+        others: just(alloc, Items::new(alloc))?,
+        updates: just(alloc, update)?,
     })
-}
-
-fn transitions(alloc: Global) -> Result<Transitions, AllocError> {
-    let idle = [cell_in(0, 1), cell_in(1, 1)];
-    let owner = [Lit::ProcEq {
-        a: PSide::Global(OWNER),
-        b: PSide::Place(0),
-    }];
-    let cells = Target::Array(0);
-    let mut all = Items::new(alloc);
-    all.push(transition(
-        alloc,
-        b"give",
-        2,
-        idle.as_slice(),
-        [].as_slice(),
-        cells,
-        same(0, 2),
-        Value::Con(0),
-    )?)?;
-    all.push(transition(
-        alloc,
-        b"finish",
-        1,
-        [cell_in(0, 2)].as_slice(),
-        [cell_in(1, 2)].as_slice(),
-        Target::Global(0),
-        None,
-        Value::Con(1),
-    )?)?;
-    all.push(transition(
-        alloc,
-        b"move",
-        0,
-        [].as_slice(),
-        [].as_slice(),
-        Target::Global(OWNER),
-        None,
-        Value::Any,
-    )?)?;
-    all.push(transition(
-        alloc,
-        b"enter",
-        1,
-        owner.as_slice(),
-        [].as_slice(),
-        cells,
-        same(0, 1),
-        Value::Con(0),
-    )?)?;
-    Ok(all)
 }
 
 fn protocol(alloc: Global) -> Result<Option<Protocol>, AllocError> {
+    let bools = sort(alloc, list(alloc, b"bool")?, b"False", b"True")?;
+    let colors = sort(alloc, list(alloc, b"t")?, b"Idle", b"Crit")?;
+    let owner = Decl {
+        name: list(alloc, b"X")?,
+        sort: Sort::Proc,
+    };
+    let cells = Decl {
+        name: list(alloc, b"A")?,
+        sort: Sort::Fin(1),
+    };
+    let goal = Goal {
+        width: 2,
+        lits: list(alloc, [cell_in(0, 2), cell_in(1, 1)].as_slice())?,
+    };
     let made = Protocol::try_new(
         alloc,
-        sorts(alloc)?,
-        globals(alloc)?,
-        arrays(alloc)?,
-        one(alloc, [cell_in(0, 1), done_in(1)].as_slice())?,
-        goals(alloc)?,
-        transitions(alloc)?,
+        both(alloc, bools, colors)?,
+        just(alloc, owner)?,
+        just(alloc, cells)?,
+        just(alloc, just(alloc, cell_in(0, 1))?)?,
+        just(alloc, goal)?,
+        both(alloc, enter(alloc)?, pass(alloc)?)?,
     );
     Ok(made.ok())
 }
 
-fn fire(
-    alloc: Global,
-    transition: u16,
-    params: &[u32],
-    owner: Option<u32>,
-) -> Result<Event, AllocError> {
+#[derive(Clone, Copy)]
+enum Step {
+    Crash(u32),
+    Enter(u32),
+    Pass(u32),
+    EnterAndPass(u32),
+}
+
+fn event(alloc: Global, step: Step) -> Result<Event, AllocError> {
+    let (transition, process) = match step {
+        Step::Crash(process) => return Ok(Event::Crash { process }),
+        Step::Enter(process) | Step::EnterAndPass(process) => (0, Some(process)),
+        Step::Pass(_) => (1, None),
+    };
+    let mut params = Items::new(alloc);
+    if let Some(process) = process {
+        params.push(process)?;
+    }
     let mut picks = Items::new(alloc);
-    if let Some(process) = owner {
+    if let Step::Pass(process) | Step::EnterAndPass(process) = step {
         picks.push(Chosen {
-            slot: Slot::Global(OWNER),
+            slot: Slot::Global(0),
             val: Val::Proc(process),
         })?;
     }
     Ok(Event::Fire {
         transition,
-        params: Items::from_slice(alloc, params)?,
+        params,
         picks,
     })
 }
 
-fn two(alloc: Global, first: Event, second: Event) -> Result<Events, AllocError> {
-    let mut events = Items::new(alloc);
-    events.push(first)?;
-    events.push(second)?;
-    Ok(events)
-}
-
-/// What came of a replay with two processes, the second of them named by X at the start.
+/// What came of a replay with three processes, of which the second is the owner at the start.
 #[derive(Clone, Copy, Debug, PartialEq, Eq)]
 enum Outcome {
     Unfit,
@@ -234,26 +154,38 @@ enum Outcome {
 }
 
 fn replayed(
-    alloc: Global,
     protocol: &Protocol,
+    alloc: Global,
     events: &[Event],
-    goal: u32,
     places: &[u32],
 ) -> Result<Outcome, StartFault> {
-    let mut state = first_state(alloc, protocol, 2).map_err(|_memory| StartFault::Memory)?;
-    let owner = Slot::Global(OWNER);
-    if !is_start_value(protocol, 2, owner, Val::Proc(1))
+    let mut state = first_state(alloc, protocol, 3).map_err(|_memory| StartFault::Memory)?;
+    let owner = Slot::Global(0);
+    if !is_start_value(protocol, 3, owner, Val::Proc(1))
         || events.len() > 9
-        || !fit_events(protocol, 2, events)
+        || !fit_events(protocol, 3, events)
     {
         return Ok(Outcome::Unfit);
     }
     set_start(protocol, &mut state, owner, Val::Proc(1));
     let mut machine = Machine::new(protocol, state)?;
     match machine.run(events) {
-        Ok(()) => Ok(Outcome::Ends(machine.ends_unsafe(goal, places))),
+        Ok(()) => Ok(Outcome::Ends(machine.ends_unsafe(0, places))),
         Err(refused) => Ok(Outcome::Refused(refused)),
     }
+}
+
+fn outcome_of(
+    protocol: &Protocol,
+    alloc: Global,
+    steps: &[Step],
+    places: &[u32],
+) -> Result<Outcome, Fail> {
+    let mut events = Items::new(alloc);
+    for step in steps {
+        events.push(event(alloc, *step)?)?;
+    }
+    Ok(replayed(protocol, alloc, events.as_slice(), places)?)
 }
 
 fn refused(number: u32, fault: StepFault) -> Outcome {
@@ -261,114 +193,69 @@ fn refused(number: u32, fault: StepFault) -> Outcome {
 }
 
 #[test]
-fn a_crash_lets_the_other_finish(rt: HostRuntime) -> Result<(), Fail> {
+fn replays_as_worked_out(rt: HostRuntime) -> Result<(), Fail> {
     let alloc = rt.alloc();
     let protocol = protocol(alloc)?.ok_or("no protocol")?;
-    let none: [u32; 0] = [];
-    let mut events = two(
-        alloc,
-        fire(alloc, 0, [0, 1].as_slice(), None)?,
-        Event::Crash { process: 1 },
-    )?;
-    events.push(fire(alloc, 1, [0].as_slice(), None)?)?;
-    assert_eq!(rt;
-        replayed(alloc, &protocol, events.as_slice(), 0, none.as_slice())?,
-        Outcome::Ends(true)
-    );
-    assert_eq!(rt;
-        replayed(alloc, &protocol, events.as_slice(), 1, [0, 1].as_slice())?,
-        Outcome::Ends(false)
-    );
-    let plain = two(
-        alloc,
-        fire(alloc, 0, [0, 1].as_slice(), None)?,
-        fire(alloc, 1, [0].as_slice(), None)?,
-    )?;
-    let other = refused(1, StepFault::Other { process: 1 });
-    assert_eq!(rt;
-        replayed(alloc, &protocol, plain.as_slice(), 0, none.as_slice())?,
-        other
-    );
-    let dead = two(
-        alloc,
-        Event::Crash { process: 1 },
-        fire(alloc, 0, [1, 1].as_slice(), None)?,
-    )?;
-    let first_dead = refused(1, StepFault::Dead { process: 1 });
-    assert_eq!(rt;
-        replayed(alloc, &protocol, dead.as_slice(), 0, none.as_slice())?,
-        first_dead
-    );
-    let twice = two(
-        alloc,
-        fire(alloc, 0, [0, 0].as_slice(), None)?,
-        Event::Crash { process: 1 },
-    )?;
-    let equal = refused(0, StepFault::Equal { process: 0 });
-    assert_eq!(rt;
-        replayed(alloc, &protocol, twice.as_slice(), 0, none.as_slice())?,
-        equal
-    );
-    Ok(())
-}
-
-#[test]
-fn a_step_picks_the_owner(rt: HostRuntime) -> Result<(), Fail> {
-    let alloc = rt.alloc();
-    let protocol = protocol(alloc)?.ok_or("no protocol")?;
-    let none: [u32; 0] = [];
-    let mut events = two(
-        alloc,
-        fire(alloc, 3, [1].as_slice(), None)?,
-        fire(alloc, 2, none.as_slice(), Some(0))?,
-    )?;
-    events.push(fire(alloc, 3, [0].as_slice(), None)?)?;
-    assert_eq!(rt;
-        replayed(alloc, &protocol, events.as_slice(), 1, [0, 1].as_slice())?,
-        Outcome::Ends(true)
-    );
-    assert_eq!(rt;
-        replayed(alloc, &protocol, events.as_slice(), 1, [0, 0].as_slice())?,
-        Outcome::Ends(false)
-    );
-    let early = two(
-        alloc,
-        fire(alloc, 3, [1].as_slice(), Some(0))?,
-        Event::Crash { process: 1 },
-    )?;
-    let pick = StepFault::Pick {
-        slot: Slot::Global(OWNER),
+    let owner = StepFault::Pick {
+        slot: Slot::Global(0),
     };
-    assert_eq!(rt;
-        replayed(alloc, &protocol, early.as_slice(), 1, none.as_slice())?,
-        refused(0, pick)
-    );
-    let late = two(
-        alloc,
-        Event::Crash { process: 0 },
-        fire(alloc, 2, none.as_slice(), Some(0))?,
-    )?;
-    assert_eq!(rt;
-        replayed(alloc, &protocol, late.as_slice(), 1, none.as_slice())?,
-        refused(1, pick)
-    );
-    let guard = two(
-        alloc,
-        fire(alloc, 3, [0].as_slice(), None)?,
-        Event::Crash { process: 0 },
-    )?;
-    assert_eq!(rt;
-        replayed(alloc, &protocol, guard.as_slice(), 1, none.as_slice())?,
-        refused(0, StepFault::Guard)
-    );
-    let unfit = two(
-        alloc,
-        Event::Crash { process: 2 },
-        Event::Crash { process: 0 },
-    )?;
-    assert_eq!(rt;
-        replayed(alloc, &protocol, unfit.as_slice(), 1, none.as_slice())?,
-        Outcome::Unfit
-    );
+    let cases = [
+        (
+            [Step::Enter(1), Step::Pass(0), Step::Crash(2)],
+            [1, 0],
+            Outcome::Ends(true),
+        ),
+        (
+            [Step::Enter(1), Step::Pass(0), Step::Crash(2)],
+            [1, 2],
+            Outcome::Ends(false),
+        ),
+        (
+            [Step::Enter(1), Step::Pass(0), Step::Crash(2)],
+            [1, 1],
+            Outcome::Ends(false),
+        ),
+        (
+            [Step::Enter(1), Step::Pass(0), Step::Crash(2)],
+            [0, 1],
+            Outcome::Ends(false),
+        ),
+        (
+            [Step::Enter(1), Step::Pass(0), Step::Enter(0)],
+            [1, 0],
+            refused(2, StepFault::Other { process: 1 }),
+        ),
+        (
+            [Step::Pass(2), Step::Crash(2), Step::Enter(2)],
+            [1, 0],
+            refused(2, StepFault::Dead { process: 2 }),
+        ),
+        (
+            [Step::Crash(0), Step::Pass(0), Step::Crash(0)],
+            [1, 0],
+            refused(1, owner),
+        ),
+        (
+            [Step::EnterAndPass(1), Step::Pass(0), Step::Crash(0)],
+            [1, 0],
+            refused(0, owner),
+        ),
+        (
+            [Step::Enter(0), Step::Pass(0), Step::Crash(0)],
+            [1, 0],
+            refused(0, StepFault::Guard),
+        ),
+        (
+            [Step::Enter(1), Step::Pass(3), Step::Crash(0)],
+            [1, 0],
+            Outcome::Unfit,
+        ),
+    ];
+    for (steps, places, expected) in cases {
+        assert_eq!(rt;
+            outcome_of(&protocol, alloc, steps.as_slice(), places.as_slice())?,
+            expected
+        );
+    }
     Ok(())
 }
