@@ -1,10 +1,10 @@
 -- An event that fits, and the transition that it names.
-use Rattle.std.proofs.Common.{◌≡◌, ℕ, ◌<◌, List, length, get_or, Option, Some, refl, sym, ap, subst, ◌∙◌, arith, slice_get, All, IsTrue, true}
+use Rattle.std.proofs.Common.{◌≡◌, ℕ, List, length, get_or, Some, refl, sym, ap, subst, ◌∙◌, slice_get, IsTrue, true}
 use Rattle.std.proofs.lemmas.Option.{slice_get_read, slice_get_within, get_or_from_slice_get}
 use Rattle.cub_proto.specs.declared.transition.Transition.{Transition}
 use Rattle.cub_proto.specs.declared.event.Chosen.{Chosen}
 use Rattle.cub_proto.specs.declared.event.Event.{Event}
-use Rattle.cub_proto.specs.declared.event.Event.TheVariants.{Crash, Fire}
+use Rattle.cub_proto.specs.declared.event.Event.TheVariants.{Fire}
 use Rattle.cub_proto.specs.declared.protocol.Protocol.{Protocol}
 use Rattle.cub_proto.specs.Configuration.{Configuration, process_count}
 use Rattle.cub_proto.specs.Fits.{transition_fits}

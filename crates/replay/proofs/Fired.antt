@@ -1,27 +1,19 @@
 -- The passes of a firing are its effect.
-use Rattle.std.proofs.Common.{◌≡◌, ℕ, zero, suc, ◌+◌, ◌<◌, ◌≤◌, Bool, true, false, cond, not, ◌&&◌, ◌==◌, List, [], ◌∷◌, ◌++◌, Option, Some, None, length, get_or, set, refl, sym, ap, subst, ◌∙◌, arith, All, IsTrue, append_assoc}
-use Rattle.std.specs.Option.{option_or, option_map, unwrap_or}
-use Rattle.std.specs.List.{list_all, find}
-use Rattle.std.proofs.lemmas.Bool.{and_parts, ne_eqb, eqb-true, eq-eqb, ltb-true, or_cases}
-use Rattle.std.proofs.lemmas.List.{same_lists, get_or-set_same, get_or-set_other, length-set, append-nil}
-use Rattle.std.proofs.lemmas.List.Elements.{All-cons, All-nil, All-head, All-tail}
-use Rattle.std.proofs.lemmas.List.Folds.{find-append}
+use Rattle.std.proofs.Common.{◌≡◌, ℕ, ◌+◌, ◌<◌, true, false, cond, List, [], ◌∷◌, ◌++◌, Option, Some, None, length, get_or, set, refl, sym, ap, ◌∙◌, arith}
+use Rattle.std.proofs.lemmas.Bool.{ne_eqb}
+use Rattle.std.proofs.lemmas.List.{same_lists, get_or-set_same, get_or-set_other, length-set}
 use Rattle.std.proofs.lemmas.Bool.{cases_eq}
 use Rattle.std.proofs.Common.{inl, inr}
 use Rattle.cub_proto.specs.declared.transition.Target.{Target}
-use Rattle.cub_proto.specs.declared.transition.Target.TheVariants as Target
 use Rattle.cub_proto.specs.declared.transition.Update.{Update}
 use Rattle.cub_proto.specs.declared.state.Slot.{Slot}
-use Rattle.cub_proto.specs.declared.state.Slot.TheVariants as Slot
 use Rattle.cub_proto.specs.declared.state.Val.{Val}
 use Rattle.cub_proto.specs.declared.state.Val.TheVariants.{Con}
-use Rattle.cub_proto.specs.declared.event.Chosen.{Chosen}
-use Rattle.cub_proto.specs.Configuration.{Configuration, is_alive, value_at, cells_of, HasSlot, put}
-use Rattle.cub_proto.specs.Fits.{targets_rise}
-use Rattle.cub_proto.specs.Effect.{map_from, updated, update_of, same_target, global_after, cell_after, cells_after, fired, same_slot, picked}
-use Rattle.replay.specs.Writes.{SameShape, HasTarget, with_cells, new_cells, written_at, written, placed, copied_at, copied}
+use Rattle.cub_proto.specs.Configuration.{Configuration, is_alive, value_at, cells_of}
+use Rattle.cub_proto.specs.Effect.{map_from, updated, update_of, same_target, global_after, cell_after, cells_after, fired}
+use Rattle.replay.specs.Writes.{HasTarget, copied_at}
 use Rattle.replay.proofs.Lists.{length-map_from, get_or-map_from_zero}
-use Rattle.replay.proofs.Found.{fresh_target, update_elsewhere, update_here}
+use Rattle.replay.proofs.Found.{update_elsewhere, update_here}
 
 -- functions that agree give the same list
 pub map_from_same : {A B : Type 0} (f g : ℕ → A → B) (n : ℕ) (xs : List A) → ((k : ℕ) (x : A) → g k x ≡ f k x) → map_from g n xs ≡ map_from f n xs

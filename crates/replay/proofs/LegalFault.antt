@@ -1,24 +1,20 @@
 -- An event has no fault exactly where it is legal.
-use Rattle.std.proofs.Common.{◌≡◌, ◌≢◌, ℕ, zero, suc, ◌+◌, ◌<◌, ◌≤◌, Bool, true, false, cond, not, ◌&&◌, ◌==◌, nat_lt, List, [], ◌∷◌, ◌++◌, Option, Some, None, is_some, length, get_or, find, refl, sym, ap, subst, ◌∙◌, arith, All, AllPairs, Contains, IsTrue, append_assoc, inl, inr, slice_get}
+use Rattle.std.proofs.Common.{◌≡◌, ◌≢◌, ℕ, ◌<◌, Bool, true, false, cond, not, ◌&&◌, ◌==◌, nat_lt, List, [], ◌∷◌, ◌++◌, Option, Some, None, length, get_or, find, refl, sym, ap, subst, ◌∙◌, arith, All, AllPairs, Contains, IsTrue, append_assoc, slice_get}
 use Rattle.std.specs.Option.{option_or, option_map}
-use Rattle.std.specs.List.{list_all, list_any, range_with_len}
-use Rattle.std.proofs.lemmas.Bool.{and_parts, and_cases, and_from, eqb-true, eq-eqb, ltb-true, ne_eqb, not-false, not-true, true≢false, false≢true, not_from_true, cases_Bool, both_ways}
+use Rattle.std.specs.List.{list_all, range_with_len}
+use Rattle.std.proofs.lemmas.Bool.{and_parts, and_from, eqb-true, eq-eqb, ltb-true, ne_eqb, not-false, not_from_true, both_ways}
 use Rattle.std.proofs.lemmas.List.{append-nil, get_or_default, get_or_append_left, get_or_at, length-append}
 use Rattle.std.proofs.lemmas.List.FromFn.{length-range_with_len, get_or-range_with_len}
-use Rattle.std.proofs.lemmas.List.Elements.{All-weaker, All-cons, All-nil, All-head, All-tail}
+use Rattle.std.proofs.lemmas.List.Elements.{All-weaker, All-cons, All-nil}
 use Rattle.std.proofs.lemmas.List.Folds.{list_any_at, list_any_none}
 use Rattle.std.proofs.lemmas.List.Quantifiers.{all_pairs_push}
 use Rattle.cub_proto.specs.declared.literal.Sort.{Sort}
-use Rattle.cub_proto.specs.declared.literal.Sort.TheVariants as Sort
 use Rattle.cub_proto.specs.declared.literal.Lit.{Lit}
 use Rattle.cub_proto.specs.declared.literal.Value.{Value}
-use Rattle.cub_proto.specs.declared.literal.Value.TheVariants as Value
 use Rattle.cub_proto.specs.declared.transition.Target.{Target}
-use Rattle.cub_proto.specs.declared.transition.Target.TheVariants as Target
 use Rattle.cub_proto.specs.declared.transition.Update.{Update}
 use Rattle.cub_proto.specs.declared.transition.Transition.{Transition}
 use Rattle.cub_proto.specs.declared.state.Slot.{Slot}
-use Rattle.cub_proto.specs.declared.state.Slot.TheVariants as Slot
 use Rattle.cub_proto.specs.declared.state.Val.{Val}
 use Rattle.cub_proto.specs.declared.state.Val.TheVariants.{Con, Proc, Int}
 use Rattle.cub_proto.specs.declared.event.Chosen.{Chosen}
@@ -31,10 +27,9 @@ use Rattle.cub_proto.specs.StateOf.{IsOfSort, signature_of}
 use Rattle.cub_proto.specs.Fits.{is_any}
 use Rattle.cub_proto.specs.Truth.{any_true}
 use Rattle.cub_proto.specs.Effect.{update_of, counting, same_slot, picked}
-use Rattle.cub_proto.specs.Legal.{AreDistinctAlive, IsPickable, TakesPick, MayPick, MayFire, IsLegalFire, IsLegal, slot_before, picks_rise}
-use Rattle.replay.specs.declared.fault.StepFault.{StepFault}
+use Rattle.cub_proto.specs.Legal.{TakesPick, MayPick, MayFire, IsLegal, slot_before, picks_rise}
 use Rattle.replay.specs.declared.fault.StepFault.TheVariants.{Dead, Equal, Guard, Other, Pick}
-use Rattle.replay.specs.FitsEvent.{is_of_sort, is_declared, slot_takes, fits_transition, fits_event, FitsEvent}
+use Rattle.replay.specs.FitsEvent.{is_of_sort, is_declared, slot_takes, fits_transition, FitsEvent}
 use Rattle.replay.specs.Fault.{is_among, first_dead, first_repeat_after, first_repeat, is_blocking, first_blocking, is_free, is_free_slot, is_no_dead, is_allowed, first_refused, guard_fault, crash_fault, firing_fault, fault_of, fault_at}
 use Rattle.replay.proofs.Lists.{all_pass}
 use Rattle.replay.proofs.Found.{found_fits, none_found, find_none}

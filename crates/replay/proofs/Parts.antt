@@ -1,15 +1,14 @@
 -- What a transition that fits a signature has, part by part.
-use Rattle.std.proofs.Common.{◌≡◌, ℕ, ◌+◌, ◌<◌, ◌≤◌, Bool, true, false, ◌&&◌, nat_le, List, [], ◌∷◌, Option, Some, None, length, refl, arith, All}
+use Rattle.std.proofs.Common.{◌≡◌, ℕ, ◌+◌, ◌≤◌, true, false, ◌&&◌, nat_le, Option, Some, None, length, refl, arith, All}
 use Rattle.std.specs.Prelude.{count_by}
 use Rattle.std.specs.List.{list_all}
 use Rattle.std.proofs.lemmas.Bool.{and_parts, leb-true}
-use Rattle.std.proofs.lemmas.List.Elements.{All-get_or}
 use Rattle.cub_base.specs.Name.{is_declarable}
 use Rattle.cub_proto.specs.declared.literal.Sort.{Sort}
 use Rattle.cub_proto.specs.declared.transition.Update.{Update}
 use Rattle.cub_proto.specs.declared.transition.Transition.{Transition}
-use Rattle.cub_proto.specs.Signature.{Signature, target_sort}
-use Rattle.cub_proto.specs.Fits.{formula_fits, value_fits, branch_fits, update_width, update_fits_sort, update_fits, targets_rise, picks_process, transition_fits}
+use Rattle.cub_proto.specs.Signature.{Signature}
+use Rattle.cub_proto.specs.Fits.{formula_fits, value_fits, branch_fits, update_fits_sort, update_fits, targets_rise, picks_process, transition_fits}
 use Rattle.replay.proofs.Lists.{all_pass}
 
 pub record TransitionParts (sig : Signature) (t : Transition) : Type 0 where

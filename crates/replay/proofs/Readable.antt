@@ -1,27 +1,23 @@
 -- What fits a protocol can be read in each of its states.
-use Rattle.std.proofs.Common.{◌≡◌, ℕ, zero, suc, ◌+◌, ◌<◌, ◌≤◌, Bool, true, false, ◌&&◌, nat_lt, nat_le, ◌^◌, List, [], ◌∷◌, ◌++◌, Option, Some, None, is_some, length, get_or, refl, sym, ap, subst, ◌∙◌, arith, All, slice_index}
+use Rattle.std.proofs.Common.{◌≡◌, ℕ, zero, suc, ◌+◌, ◌<◌, true, false, ◌&&◌, nat_lt, nat_le, ◌^◌, List, [], ◌∷◌, ◌++◌, Option, Some, None, is_some, length, get_or, refl, ap, ◌∙◌, arith, All}
 use Rattle.std.specs.List.{list_all, AllZip}
 use Rattle.std.proofs.lemmas.Bool.{and_parts, ltb-true}
 use Rattle.std.proofs.lemmas.List.Elements.{All-weaker, All-push}
 use Rattle.std.proofs.lemmas.List.{length_push}
 use Rattle.std.proofs.lemmas.Slice.Zip.{AllZip-long}
 use Rattle.cub_proto.specs.declared.literal.Sort.{Sort}
-use Rattle.cub_proto.specs.declared.literal.Sort.TheVariants as Sort
 use Rattle.cub_proto.specs.declared.literal.Term.{Term}
-use Rattle.cub_proto.specs.declared.literal.Term.TheVariants as Term
 use Rattle.cub_proto.specs.declared.literal.PSide.{PSide}
-use Rattle.cub_proto.specs.declared.literal.PSide.TheVariants as PSide
 use Rattle.cub_proto.specs.declared.literal.ISide.{ISide}
 use Rattle.cub_proto.specs.declared.literal.ISide.TheVariants.{Zero, At}
 use Rattle.cub_proto.specs.declared.literal.Lit.{Lit}
 use Rattle.cub_proto.specs.declared.literal.Lit.TheVariants.{FinIn, FinEq, FinNe, ProcEq, ProcNe, Diff}
-use Rattle.cub_proto.specs.declared.state.Val.{Val}
 use Rattle.cub_proto.specs.declared.protocol.Decl.{Decl}
 use Rattle.cub_proto.specs.declared.protocol.Protocol.{Protocol}
 use Rattle.cub_proto.specs.Configuration.{Configuration, process_count, cells_of}
-use Rattle.cub_proto.specs.Signature.{Signature, declared_sort, sort_of, is_sort, same_finite, constructors_at}
-use Rattle.cub_proto.specs.Fits.{place_fits, term_fits, process_side_fits, integer_side_fits, is_finite, literal_fits, is_bounded, greatest_bound, conjunction_fits, formula_fits}
-use Rattle.cub_proto.specs.StateOf.{IsStateOf, AreCells, IsOfSort, signature_of}
+use Rattle.cub_proto.specs.Signature.{declared_sort, sort_of, is_sort, same_finite, constructors_at}
+use Rattle.cub_proto.specs.Fits.{place_fits, process_side_fits, integer_side_fits, is_finite, literal_fits, is_bounded, greatest_bound, conjunction_fits, formula_fits}
+use Rattle.cub_proto.specs.StateOf.{IsStateOf, AreCells, signature_of}
 use Rattle.cub_proto.specs.Truth.{HasTerm, HasProcessSide, HasIntegerSide, HasLiteral, HasLiterals}
 use Rattle.replay.proofs.Lists.{all_pass}
 

@@ -1,36 +1,30 @@
 -- A transition of a protocol can be computed in each of its states.
-use Rattle.std.proofs.Common.{◌≡◌, ℕ, ◌+◌, ◌<◌, ◌≤◌, ◌^◌, Bool, true, false, ◌&&◌, nat_le, List, [], ◌∷◌, ◌++◌, Option, Some, None, is_some, length, unsigned_abs, refl, sym, ap, subst, ◌∙◌, arith, All, pos, ℤ}
+use Rattle.std.proofs.Common.{◌≡◌, ℕ, ◌+◌, ◌≤◌, ◌^◌, true, false, ◌&&◌, nat_le, List, [], ◌∷◌, ◌++◌, Option, Some, is_some, unsigned_abs, ap, subst, arith, All, ℤ}
 use Rattle.std.proofs.lemmas.Bool.{and_parts, leb-true}
 use Rattle.std.proofs.lemmas.List.Elements.{All-weaker}
 use Rattle.cub_proto.specs.declared.literal.Sort.{Sort}
-use Rattle.cub_proto.specs.declared.literal.Sort.TheVariants as Sort
 use Rattle.cub_proto.specs.declared.literal.Term.{Term}
-use Rattle.cub_proto.specs.declared.literal.Term.TheVariants as Term
 use Rattle.cub_proto.specs.declared.literal.ISide.{ISide}
 use Rattle.cub_proto.specs.declared.literal.ISide.TheVariants.{Zero, At}
 use Rattle.cub_proto.specs.declared.literal.Value.{Value}
-use Rattle.cub_proto.specs.declared.literal.Value.TheVariants as Value
-use Rattle.cub_proto.specs.declared.transition.Branch.{Branch}
 use Rattle.cub_proto.specs.declared.transition.Target.{Target}
-use Rattle.cub_proto.specs.declared.transition.Target.TheVariants as Target
 use Rattle.cub_proto.specs.declared.transition.Update.{Update}
 use Rattle.cub_proto.specs.declared.transition.Transition.{Transition}
 use Rattle.cub_proto.specs.declared.state.Slot.{Slot}
-use Rattle.cub_proto.specs.declared.state.Slot.TheVariants as Slot
 use Rattle.cub_proto.specs.declared.state.Val.{Val}
 use Rattle.cub_proto.specs.declared.state.Val.TheVariants.{Con, Proc, Int}
 use Rattle.cub_proto.specs.declared.protocol.Protocol.{Protocol}
-use Rattle.cub_proto.specs.Configuration.{Configuration, process_count, value_at, HasSlot}
+use Rattle.cub_proto.specs.Configuration.{Configuration, value_at, HasSlot}
 use Rattle.cub_proto.specs.Signature.{sort_of, declared_sort, target_sort, is_sort}
-use Rattle.cub_proto.specs.Fits.{place_fits, term_fits, process_side_fits, integer_side_fits, conjunction_fits, value_fits, branch_fits, update_width, update_fits_sort, update_fits, greatest_constant}
+use Rattle.cub_proto.specs.Fits.{place_fits, integer_side_fits, conjunction_fits, value_fits, branch_fits, update_width, update_fits_sort, update_fits, greatest_constant}
 use Rattle.cub_proto.specs.StateOf.{IsStateOf, signature_of}
 use Rattle.cub_proto.specs.Truth.{slot_of, integer_of, integer_at, term_value, HasTerm, HasIntegerSide, HasLiterals}
 use Rattle.cub_proto.specs.Effect.{update_of}
 use Rattle.replay.specs.Bound.{size_of, IsWithin}
-use Rattle.replay.specs.Reads.{IsFiring, ReadsConditions, ReadsValue, ReadsUpdate, ReadsTarget, ReadsUpdates}
+use Rattle.replay.specs.Reads.{IsFiring, ReadsValue, ReadsUpdate, ReadsTarget, ReadsUpdates}
 use Rattle.replay.specs.Writes.{HasTarget}
 use Rattle.replay.proofs.Found.{update_found}
-use Rattle.replay.proofs.Parts.{TransitionParts, transition_parts, UpdateParts, update_parts}
+use Rattle.replay.proofs.Parts.{transition_parts, UpdateParts, update_parts}
 use Rattle.replay.proofs.Readable.{Fills, fills_more, global_there, array_there, has_term, has_process_side, has_integer_side, has_conjunction, sort_is_some}
 
 pub integer_size : (v : Val) → unsigned_abs (integer_of v) ≤ size_of v

@@ -1,19 +1,18 @@
 -- A machine stays ready.
-use Rattle.std.proofs.Common.{◌≡◌, ℕ, ◌+◌, ◌*◌, ◌<◌, ◌≤◌, ◌^◌, Option, Some, None, true, false, List, length, get_or, refl, sym, ap, subst, ◌∙◌, arith, All, IsTrue, slice_get, is_ok, Ok, Err}
-use Rattle.std.proofs.lemmas.Bool.{false≢true, and_parts}
+use Rattle.std.proofs.Common.{◌≡◌, ℕ, ◌+◌, ◌<◌, ◌≤◌, Some, None, true, List, sym, ap, subst, ◌∙◌, arith, All, slice_get}
+use Rattle.std.proofs.lemmas.Bool.{and_parts}
 use Rattle.std.proofs.lemmas.List.Elements.{All-weaker}
 use Rattle.cub_proto.specs.declared.event.Chosen.{Chosen}
 use Rattle.cub_proto.specs.declared.event.Event.{Event}
 use Rattle.cub_proto.specs.declared.event.Event.TheVariants.{Crash, Fire}
-use Rattle.cub_proto.specs.declared.transition.Transition.{Transition}
 use Rattle.cub_proto.specs.declared.state.Slot.{Slot}
 use Rattle.cub_proto.specs.declared.state.Val.{Val}
 use Rattle.cub_proto.specs.declared.protocol.Protocol.{Protocol}
-use Rattle.cub_proto.specs.Configuration.{Configuration, process_count, killed}
+use Rattle.cub_proto.specs.Configuration.{Configuration, process_count}
 use Rattle.cub_proto.specs.Fits.{greatest_constant}
 use Rattle.cub_proto.specs.StateOf.{IsStateOf, signature_of}
-use Rattle.cub_proto.specs.Effect.{fired, picked}
-use Rattle.cub_proto.specs.Legal.{IsLegal, after, fired_by}
+use Rattle.cub_proto.specs.Effect.{picked}
+use Rattle.cub_proto.specs.Legal.{after, fired_by}
 use Rattle.cub_proto.proofs.KeepsStates.{after_state}
 use Rattle.replay.specs.Bound.{size_of, AreWithin, IsWithin, bound_after, most_events}
 use Rattle.replay.specs.FitsEvent.{FitsEvent, slot_takes}
@@ -21,7 +20,7 @@ use Rattle.replay.specs.Fault.{is_free_slot, is_no_dead, is_allowed, fault_of, f
 use Rattle.replay.specs.Machine.{IsReady}
 use Rattle.replay.proofs.Parts.{transition_parts}
 use Rattle.replay.proofs.Readable.{Fills}
-use Rattle.replay.proofs.LegalFault.{FitsParts, fits_parts, no_fault, NoFault, picked_from, legal_without_fault}
+use Rattle.replay.proofs.LegalFault.{FitsParts, fits_parts, no_fault, picked_from, legal_without_fault}
 use Rattle.replay.proofs.Applied.{transition_at}
 use Rattle.replay.proofs.Within.{allowed_small, fired_within}
 

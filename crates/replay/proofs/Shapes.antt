@@ -1,19 +1,13 @@
 -- Writes keep the slots that are there.
-use Rattle.std.proofs.Common.{◌≡◌, ℕ, zero, suc, ◌+◌, ◌<◌, ◌≤◌, List, [], ◌∷◌, ◌++◌, Some, None, length, get_or, set, take, drop, refl, sym, ap, ◌∙◌, arith, All}
+use Rattle.std.proofs.Common.{◌≡◌, ℕ, ◌<◌, List, [], Some, None, length, get_or, set, refl, sym, ap, ◌∙◌, arith}
 use Rattle.std.proofs.lemmas.List.{length-set, get_or-set_same, get_or-set_other, set-set, get_or_past, set_past}
 use Rattle.std.proofs.lemmas.Bool.{cases_eq, cases_lt}
-use Rattle.std.specs.Prelude.{◌⊎◌}
 use Rattle.std.proofs.Common.{inl, inr}
-use Rattle.cub_proto.specs.declared.literal.Value.{Value}
-use Rattle.cub_proto.specs.declared.transition.Branch.{Branch}
 use Rattle.cub_proto.specs.declared.transition.Target.{Target}
-use Rattle.cub_proto.specs.declared.transition.Target.TheVariants as Target
 use Rattle.cub_proto.specs.declared.transition.Update.{Update}
 use Rattle.cub_proto.specs.declared.state.Slot.{Slot}
-use Rattle.cub_proto.specs.declared.state.Slot.TheVariants as Slot
 use Rattle.cub_proto.specs.declared.state.Val.{Val}
-use Rattle.cub_proto.specs.declared.event.Chosen.{Chosen}
-use Rattle.cub_proto.specs.Configuration.{Configuration, value_at, cells_of, HasSlot, put}
+use Rattle.cub_proto.specs.Configuration.{Configuration, cells_of, HasSlot, put}
 use Rattle.std.proofs.Common.{Option}
 use Rattle.cub_proto.specs.Effect.{cell_after, cells_after, global_after, update_of, fired, map_from}
 use Rattle.replay.specs.Writes.{SameShape, HasTarget, with_cells, new_cells, written_at, copied_at}

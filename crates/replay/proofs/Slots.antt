@@ -1,15 +1,12 @@
 -- Slots told apart, and what is picked for them.
-use Rattle.std.proofs.Common.{◌≡◌, ℕ, ◌+◌, ◌<◌, ◌≤◌, Bool, true, false, cond, ◌&&◌, ◌||◌, ◌==◌, nat_lt, List, [], ◌∷◌, ◌++◌, Option, Some, None, length, get_or, find, refl, sym, ap, ◌∙◌, arith}
+use Rattle.std.proofs.Common.{◌≡◌, ℕ, ◌<◌, Bool, true, false, cond, ◌&&◌, ◌==◌, nat_lt, List, [], ◌∷◌, ◌++◌, Some, None, length, find, refl, sym, ap, ◌∙◌, arith}
 use Rattle.std.specs.Option.{option_or, option_map}
 use Rattle.std.specs.List.{list_all}
 use Rattle.std.proofs.Common.{inl, inr}
 use Rattle.std.proofs.lemmas.Bool.{and_parts, eqb-true, eq-eqb, ltb-true, ne_eqb, or_cases, cases_lt, cond-true, cond-false}
-use Rattle.std.proofs.lemmas.Bool.Decides.{nat_tests}
 use Rattle.std.proofs.lemmas.List.{get_or_past}
 use Rattle.std.proofs.lemmas.List.Folds.{find-append}
 use Rattle.cub_proto.specs.declared.state.Slot.{Slot}
-use Rattle.cub_proto.specs.declared.state.Slot.TheVariants as Slot
-use Rattle.cub_proto.specs.declared.state.Val.{Val}
 use Rattle.cub_proto.specs.declared.event.Chosen.{Chosen}
 use Rattle.cub_proto.specs.Configuration.{Configuration, process_count, is_alive}
 use Rattle.cub_proto.specs.Effect.{same_slot, picked}

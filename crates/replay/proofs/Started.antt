@@ -1,30 +1,27 @@
 -- How the states are made with which a replay may begin.
-use Rattle.std.proofs.Common.{◌≡◌, ℕ, zero, suc, ◌<◌, ◌≤◌, true, false, ◌&&◌, nat_lt, nat_le, List, [], ◌∷◌, Option, Some, None, length, get_or, set, map, replicate, refl, sym, ap, subst, ◌∙◌, arith, All, IsTrue, slice_get, pos}
+use Rattle.std.proofs.Common.{◌≡◌, ℕ, zero, suc, ◌<◌, ◌≤◌, true, false, ◌&&◌, nat_lt, nat_le, List, [], ◌∷◌, Option, Some, None, length, get_or, set, map, replicate, refl, sym, ap, subst, ◌∙◌, arith, All, IsTrue, slice_get}
 use Rattle.std.specs.Option.{option_map}
 use Rattle.std.specs.List.{AllZip}
 use Rattle.std.proofs.lemmas.Bool.{and_parts, ltb-true, leb-true}
 use Rattle.std.proofs.lemmas.List.{length-set, length-replicate, get_or-replicate}
-use Rattle.std.proofs.lemmas.List.Elements.{All-set, All-head, All-tail, All-cons, All-nil, All-replicate, All-map, All-weaker}
-use Rattle.std.proofs.lemmas.Option.{slice_get-get_or, slice_get_within}
-use Rattle.std.proofs.lemmas.Slice.Zip.{AllZip-long}
+use Rattle.std.proofs.lemmas.List.Elements.{All-set, All-head, All-tail, All-nil, All-replicate, All-map}
+use Rattle.std.proofs.lemmas.Option.{slice_get-get_or}
 use Rattle.cub_base.specs.Name.{is_declarable}
 use Rattle.cub_proto.specs.declared.literal.Sort.{Sort}
-use Rattle.cub_proto.specs.declared.literal.Sort.TheVariants as Sort
 use Rattle.cub_proto.specs.declared.state.Slot.{Slot}
-use Rattle.cub_proto.specs.declared.state.Slot.TheVariants as Slot
 use Rattle.cub_proto.specs.declared.state.Val.{Val}
-use Rattle.cub_proto.specs.declared.state.Val.TheVariants.{Con, Proc, Int}
+use Rattle.cub_proto.specs.declared.state.Val.TheVariants.{Con}
 use Rattle.cub_proto.specs.declared.protocol.Decl.{Decl}
 use Rattle.cub_proto.specs.declared.protocol.SortDecl.{SortDecl}
 use Rattle.cub_proto.specs.declared.protocol.Protocol.{Protocol}
 use Rattle.cub_proto.specs.Configuration.{Configuration, process_count, cells_of, IsAlive, HasSlot, put}
-use Rattle.cub_proto.specs.Signature.{Signature, declared_sort, constructors_of, same_sort}
+use Rattle.cub_proto.specs.Signature.{declared_sort, constructors_of, same_sort}
 use Rattle.cub_proto.specs.Fits.{sort_is_there, global_fits, array_fits}
 use Rattle.cub_proto.specs.First.{first_value}
 use Rattle.cub_proto.specs.StateOf.{IsStateOf, IsOfSort, AreCells, signature_of, first_state}
 use Rattle.cub_proto.proofs.Constructors.{declared_size}
 use Rattle.replay.specs.Bound.{size_of, AreWithin, IsWithin, greatest_start}
-use Rattle.replay.specs.FitsEvent.{is_of_sort, is_declared, slot_takes}
+use Rattle.replay.specs.FitsEvent.{is_declared, slot_takes}
 use Rattle.replay.specs.FitsStart.{FitsStart, is_start_value}
 use Rattle.replay.proofs.LegalFault.{of_sort}
 use Rattle.replay.proofs.Readable.{global_there, array_there}

@@ -1,30 +1,22 @@
 -- How far an event moves the integers of a state.
-use Rattle.std.proofs.Common.{◌≡◌, ℕ, zero, suc, ◌+◌, ◌<◌, ◌≤◌, ◌^◌, ℤ, ◌+ℤ◌, Bool, true, false, cond, ◌&&◌, nat_le, nat_lt, List, [], ◌∷◌, ◌++◌, Option, Some, None, length, get_or, unsigned_abs, refl, sym, ap, subst, ◌∙◌, arith, All}
-use Rattle.std.specs.Option.{unwrap_or}
+use Rattle.std.proofs.Common.{◌≡◌, ℕ, ◌+◌, ◌≤◌, ℤ, ◌+ℤ◌, Bool, true, false, cond, nat_le, nat_lt, List, [], ◌∷◌, ◌++◌, Option, Some, None, unsigned_abs, refl, subst, arith, All}
 use Rattle.std.proofs.lemmas.Bool.{and_parts, leb-true}
 use Rattle.std.proofs.lemmas.Int.{ints}
 use Rattle.std.proofs.lemmas.List.Elements.{All-weaker, All-cons, All-nil, All-head, All-tail}
 use Rattle.cub_proto.specs.declared.literal.Sort.{Sort}
-use Rattle.cub_proto.specs.declared.literal.Sort.TheVariants as Sort
-use Rattle.cub_proto.specs.declared.literal.ISide.{ISide}
 use Rattle.cub_proto.specs.declared.literal.Value.{Value}
-use Rattle.cub_proto.specs.declared.literal.Value.TheVariants as Value
-use Rattle.cub_proto.specs.declared.transition.Branch.{Branch}
 use Rattle.cub_proto.specs.declared.transition.Target.{Target}
-use Rattle.cub_proto.specs.declared.transition.Target.TheVariants as Target
 use Rattle.cub_proto.specs.declared.transition.Update.{Update}
 use Rattle.cub_proto.specs.declared.state.Slot.{Slot}
-use Rattle.cub_proto.specs.declared.state.Slot.TheVariants as Slot
 use Rattle.cub_proto.specs.declared.state.Val.{Val}
 use Rattle.cub_proto.specs.declared.state.Val.TheVariants.{Con, Proc, Int}
-use Rattle.cub_proto.specs.declared.event.Chosen.{Chosen}
 use Rattle.cub_proto.specs.declared.protocol.Protocol.{Protocol}
-use Rattle.cub_proto.specs.Configuration.{Configuration, process_count, is_alive, value_at, cells_of, HasSlot}
+use Rattle.cub_proto.specs.Configuration.{Configuration, process_count, is_alive}
 use Rattle.cub_proto.specs.Signature.{Signature, sort_of, declared_sort, target_sort, is_sort}
 use Rattle.cub_proto.specs.Fits.{is_any, place_fits, integer_side_fits, conjunction_fits, value_fits, branch_fits, update_width, update_fits_sort, update_fits, greatest_constant}
 use Rattle.cub_proto.specs.StateOf.{IsStateOf, signature_of}
-use Rattle.cub_proto.specs.Truth.{integer_at, term_value}
-use Rattle.cub_proto.specs.Effect.{map_from, counting, chosen, settled, updated, update_of, global_after, cell_after, cells_after, fired, picked}
+use Rattle.cub_proto.specs.Truth.{integer_at}
+use Rattle.cub_proto.specs.Effect.{map_from, counting, settled, updated, update_of, global_after, cell_after, cells_after, fired}
 use Rattle.replay.specs.FitsEvent.{is_of_sort, is_declared, slot_takes}
 use Rattle.replay.specs.Fault.{is_free, is_free_slot}
 use Rattle.replay.specs.Bound.{size_of, AreWithin, IsWithin}
@@ -32,7 +24,7 @@ use Rattle.replay.proofs.Found.{update_found}
 use Rattle.replay.proofs.Counting.{of_chosen}
 use Rattle.replay.proofs.Parts.{UpdateParts, update_parts}
 use Rattle.replay.proofs.Readable.{Fills, fills_more, has_term, has_integer_side, sort_is_some}
-use Rattle.replay.proofs.Reading.{term_within, side_within, value_within}
+use Rattle.replay.proofs.Reading.{term_within, side_within}
 use Rattle.replay.proofs.Slots.{alive_within}
 
 -- what holds of each element's image holds of the list of images

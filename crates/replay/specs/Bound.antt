@@ -1,5 +1,5 @@
 -- How large the integers of a replay become: a step adds at most the greatest constant of a protocol.
-use Rattle.std.specs.Prelude.{ℕ, ◌+◌, ◌*◌, ◌≤◌, ◌^◌, List, All, unsigned_abs}
+use Rattle.std.specs.Prelude.{ℕ, ◌+◌, ◌*◌, ◌≤◌, List, All, unsigned_abs}
 use Rattle.cub_proto.specs.declared.state.Val.{Val}
 use Rattle.cub_proto.specs.declared.state.Val.TheVariants.{Con, Proc, Int}
 use Rattle.cub_proto.specs.Configuration.{Configuration}

@@ -1,5 +1,5 @@
 -- With which states a replay may begin.
-use Rattle.std.specs.Prelude.{ℕ, ◌<◌, Bool, ◌&&◌, nat_le, IsTrue}
+use Rattle.std.specs.Prelude.{ℕ, ◌<◌, Bool, ◌&&◌, nat_le}
 use Rattle.cub_proto.specs.declared.state.Slot.{Slot}
 use Rattle.cub_proto.specs.declared.state.Val.{Val}
 use Rattle.cub_proto.specs.declared.protocol.Protocol.{Protocol}

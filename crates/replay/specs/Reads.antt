@@ -1,9 +1,7 @@
 -- What a firing reads in a state.
 use Rattle.std.specs.Prelude.{◌≡◌, ℕ, ◌+◌, ◌<◌, ◌≤◌, ◌^◌, unsigned_abs, List, [], ◌∷◌, ◌++◌, length, All, IsTrue}
 use Rattle.cub_proto.specs.declared.literal.Value.{Value}
-use Rattle.cub_proto.specs.declared.literal.Value.TheVariants as Value
 use Rattle.cub_proto.specs.declared.transition.Target.{Target}
-use Rattle.cub_proto.specs.declared.transition.Target.TheVariants as Target
 use Rattle.cub_proto.specs.declared.transition.Update.{Update}
 use Rattle.cub_proto.specs.declared.transition.Transition.{Transition}
 use Rattle.cub_proto.specs.declared.protocol.Protocol.{Protocol}

@@ -1,5 +1,5 @@
 -- The first process of a state at which the start formula is false.
-use Rattle.std.specs.Prelude.{ℕ, not, List, [], ◌∷◌, Option, find}
+use Rattle.std.specs.Prelude.{ℕ, not, [], ◌∷◌, Option, find}
 use Rattle.std.specs.List.{range_with_len}
 use Rattle.cub_proto.specs.declared.protocol.Protocol.{Protocol}
 use Rattle.cub_proto.specs.Configuration.{Configuration, process_count}

@@ -1,8 +1,6 @@
-use Rattle.std.proofs.Common.{◌≡◌, ℕ, ◌<◌, ◌≤◌, List, length, get_or, arith, sym, ap, ◌∙◌}
-use Rattle.cub_proto.specs.declared.state.Val.{Val}
-use Rattle.cub_proto.specs.Configuration.{Configuration, cells_of}
-use Rattle.replay.specs.Writes.{SameShape, HasTarget}
-use Rattle.replay.proofs.Cells.{cells_there, cells_more, cells_whole}
+use Rattle.std.proofs.Common.{arith, ◌∙◌}
+use Rattle.cub_proto.specs.Configuration.{cells_of}
+use Rattle.replay.proofs.Cells.{cells_more, cells_whole}
 use Rattle.replay.proofs.effect.copy_cells.Goals as goal
 
 pub loop-process-preserved : goal.loop-process-preserved

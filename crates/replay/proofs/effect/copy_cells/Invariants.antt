@@ -1,6 +1,6 @@
-use Rattle.std.proofs.Common.{◌≡◌, ◌++◌, take, drop, length}
+use Rattle.std.proofs.Common.{◌≡◌, ◌++◌, take, drop}
 use Rattle.cub_proto.specs.Configuration.{cells_of}
-use Rattle.replay.specs.Writes.{SameShape, with_cells}
+use Rattle.replay.specs.Writes.{with_cells}
 use Rattle.replay.proofs.effect.copy_cells.Given as goal
 
 abbrev pub invariant-loop-process : goal.invariant-loop-process

@@ -1,4 +1,4 @@
-use Rattle.std.proofs.Common.{◌≡◌, ◌+◌, All, subst, sym, ap, ◌∙◌, drop, get_or, arith}
+use Rattle.std.proofs.Common.{◌+◌, All, subst, sym, ap, ◌∙◌, drop, get_or}
 use Rattle.std.proofs.lemmas.List.{at_drop_more}
 use Rattle.std.proofs.lemmas.List.Elements.{All-weaker}
 use Rattle.cub_proto.specs.declared.event.Chosen.{Chosen}

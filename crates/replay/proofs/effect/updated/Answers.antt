@@ -1,5 +1,4 @@
-use Rattle.std.proofs.Common.{◌≡◌, sym, subst}
-use Rattle.cub_proto.specs.Effect.{counting}
+use Rattle.std.proofs.Common.{sym, subst}
 use Rattle.replay.specs.Reads.{ReadsValue}
 use Rattle.replay.proofs.Counting.{of_chosen}
 use Rattle.replay.proofs.effect.updated.Goals as goal

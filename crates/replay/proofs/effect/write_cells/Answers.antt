@@ -1,5 +1,4 @@
-use Rattle.std.proofs.Common.{◌≡◌, ℕ, ◌<◌, ◌≤◌, List, Some, None, length, get_or, arith, sym, ap, ◌∙◌}
-use Rattle.cub_proto.specs.declared.state.Val.{Val}
+use Rattle.std.proofs.Common.{◌≡◌, ℕ, ◌<◌, List, Some, None, length, arith, sym, ◌∙◌}
 use Rattle.cub_proto.specs.declared.state.Val.TheVariants.{Con}
 use Rattle.cub_proto.specs.declared.transition.Update.{Update}
 use Rattle.cub_proto.specs.declared.transition.Target.TheVariants as Target

@@ -1,4 +1,4 @@
-use Rattle.std.proofs.Common.{◌≡◌, sym, subst, All}
+use Rattle.std.proofs.Common.{sym, subst, All}
 use Rattle.cub_proto.specs.StateOf.{signature_of}
 use Rattle.cub_proto.specs.Truth.{HasLiterals}
 use Rattle.replay.proofs.Parts.{transition_parts}

@@ -1,4 +1,4 @@
-use Rattle.std.proofs.Common.{◌≡◌, ◌<◌, ◌≤◌, sym, ◌∙◌, arith}
+use Rattle.std.proofs.Common.{sym, ◌∙◌, arith}
 use Rattle.replay.specs.Fault.{is_blocking}
 use Rattle.replay.proofs.Lists.{find_range_yes, find_range_no, find_range_none}
 use Rattle.replay.proofs.fault_at.first_blocking.Goals as goal

@@ -1,4 +1,4 @@
-use Rattle.std.proofs.Common.{◌≡◌, ◌-◌, ◌+◌, find}
+use Rattle.std.proofs.Common.{◌≡◌, ◌-◌, find}
 use Rattle.std.specs.List.{range_with_len}
 use Rattle.replay.specs.Fault.{is_blocking, first_blocking}
 use Rattle.replay.proofs.fault_at.first_blocking.Given as goal

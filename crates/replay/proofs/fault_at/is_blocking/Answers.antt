@@ -1,6 +1,5 @@
-use Rattle.std.proofs.Common.{◌≡◌, ◌≤◌, ◌<◌, ◌+◌, length, arith, All, true, subst, sym, ap, ◌∙◌}
+use Rattle.std.proofs.Common.{◌+◌, arith}
 use Rattle.cub_proto.specs.StateOf.{signature_of}
-use Rattle.cub_proto.specs.Truth.{HasLiterals}
 use Rattle.replay.proofs.Parts.{transition_parts}
 use Rattle.replay.proofs.Readable.{Fills, fills_more, has_formula}
 use Rattle.replay.proofs.fault_at.is_blocking.Goals as goal

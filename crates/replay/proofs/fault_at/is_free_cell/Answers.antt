@@ -1,4 +1,4 @@
-use Rattle.std.proofs.Common.{◌≡◌, sym, ◌∙◌, subst}
+use Rattle.std.proofs.Common.{sym, ◌∙◌, subst}
 use Rattle.cub_proto.specs.declared.transition.Target.TheVariants as Target
 use Rattle.replay.specs.Reads.{ReadsConditions}
 use Rattle.replay.proofs.Reading.{reads_found}

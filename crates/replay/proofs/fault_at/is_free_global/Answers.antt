@@ -1,4 +1,4 @@
-use Rattle.std.proofs.Common.{◌≡◌, sym}
+use Rattle.std.proofs.Common.{sym}
 use Rattle.cub_proto.specs.declared.transition.Target.TheVariants as Target
 use Rattle.replay.proofs.Reading.{reads_found}
 use Rattle.replay.proofs.fault_at.is_free_global.Goals as goal

@@ -1,4 +1,4 @@
-use Rattle.std.proofs.Common.{◌≡◌, ◌<◌, [], ◌∷◌, ◌&&◌, nat_le, length, All, refl, sym, subst}
+use Rattle.std.proofs.Common.{◌<◌, [], ◌∷◌, ◌&&◌, nat_le, length, All, refl, sym, subst}
 use Rattle.std.specs.List.{list_all}
 use Rattle.std.proofs.lemmas.Bool.{and_parts}
 use Rattle.std.proofs.lemmas.List.Elements.{All-cons, All-nil}

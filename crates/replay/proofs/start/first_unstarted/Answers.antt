@@ -1,4 +1,4 @@
-use Rattle.std.proofs.Common.{◌≡◌, not, [], ◌∷◌, true, sym, ap, ◌∙◌}
+use Rattle.std.proofs.Common.{not, [], ◌∷◌, sym, ap, ◌∙◌}
 use Rattle.cub_proto.specs.Truth.{any_true}
 use Rattle.replay.proofs.Lists.{find_range_no}
 use Rattle.replay.proofs.start.first_unstarted.Goals as goal

@@ -1,4 +1,4 @@
-use Rattle.std.proofs.Common.{◌≡◌, sym, subst}
+use Rattle.std.proofs.Common.{sym, subst}
 use Rattle.replay.specs.FitsStart.{FitsStart}
 use Rattle.replay.proofs.Started.{put_fits, takes_there}
 use Rattle.replay.proofs.start.set_start.Goals as goal

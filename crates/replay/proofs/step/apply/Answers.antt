@@ -1,6 +1,5 @@
 use Rattle.std.proofs.Common.{◌≡◌, OnOk, sym, ap, subst, ◌∙◌, get_or}
 use Rattle.cub_proto.specs.Effect.{fired, picked}
-use Rattle.cub_proto.specs.Legal.{after}
 use Rattle.replay.specs.Fault.{firing_fault}
 use Rattle.replay.specs.Reads.{IsFiring}
 use Rattle.replay.proofs.Applied.{firing_here, fault_here, after_here}

@@ -1,4 +1,4 @@
-use Rattle.std.proofs.Common.{◌≡◌, ◌≤◌, ◌^◌, ◌+◌, All, IsTrue, length, sym, subst, arith}
+use Rattle.std.proofs.Common.{◌≤◌, ◌^◌, ◌+◌, All, IsTrue, sym, subst, arith}
 use Rattle.cub_proto.specs.StateOf.{signature_of}
 use Rattle.cub_proto.specs.Fits.{targets_rise, greatest_constant}
 use Rattle.replay.specs.Fault.{is_allowed}

@@ -1,4 +1,4 @@
-use Rattle.std.proofs.Common.{◌≡◌, ◌<◌, nat_le, length, sym, subst, arith, All}
+use Rattle.std.proofs.Common.{◌≡◌, ◌<◌, nat_le, length, sym, subst, arith}
 use Rattle.std.proofs.lemmas.Bool.{and_parts}
 use Rattle.std.proofs.lemmas.List.Elements.{All-weaker}
 use Rattle.cub_proto.specs.Configuration.{process_count, IsAlive}

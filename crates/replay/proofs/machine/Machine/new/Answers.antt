@@ -1,4 +1,4 @@
-use Rattle.std.proofs.Common.{◌≡◌, not, [], ◌∷◌, sym, ◌∙◌}
+use Rattle.std.proofs.Common.{not, [], ◌∷◌, sym, ◌∙◌}
 use Rattle.std.proofs.lemmas.Bool.{not-false}
 use Rattle.cub_proto.specs.Configuration.{process_count}
 use Rattle.cub_proto.specs.Truth.{any_true}

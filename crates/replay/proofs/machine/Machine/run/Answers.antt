@@ -1,4 +1,4 @@
-use Rattle.std.proofs.Common.{◌≡◌, ◌+◌, refl, sym, ap, subst, ◌∙◌}
+use Rattle.std.proofs.Common.{◌+◌, refl, ap, subst, ◌∙◌}
 use Rattle.cub_proto.specs.Configuration.{process_count}
 use Rattle.cub_proto.specs.Legal.{IsLegal, after}
 use Rattle.replay.specs.Machine.{Replay}

@@ -1,9 +1,8 @@
-use Rattle.std.proofs.Common.{◌≡◌, ◌<◌, Some, None, true, false, refl, sym, ap, subst, ◌∙◌}
+use Rattle.std.proofs.Common.{◌≡◌, ◌<◌, Some, None, true, false, refl, sym, subst, ◌∙◌}
 use Rattle.std.proofs.lemmas.Bool.{false≢true}
 use Rattle.cub_proto.specs.Configuration.{process_count}
 use Rattle.cub_proto.specs.Legal.{IsLegal}
 use Rattle.replay.specs.FitsEvent.{FitsEvent}
-use Rattle.replay.specs.Fault.{fault_at}
 use Rattle.replay.specs.Bound.{most_events}
 use Rattle.replay.specs.Machine.{Replay}
 use Rattle.replay.proofs.LegalFault.{legal_without_fault, no_fault_where_legal}
