@@ -1,0 +1,7 @@
+use Rattle.std.proofs.Common.{◌-◌}
+use Rattle.cub_parse.specs.Parsing.{next_rest}
+use Rattle.cub_parse.proofs.Loop.{Goes}
+use Rattle.cub_parse.proofs.files.rests.Given as goal
+
+abbrev pub invariant-loop : goal.invariant-loop
+invariant-loop l = Goes (next_rest l.levels) l.leaves l.found (l.end - l.counter) l.rest

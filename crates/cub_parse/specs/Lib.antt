@@ -1,0 +1,4 @@
+pub mod Phrase
+pub mod Grammar
+pub mod Sentence
+pub mod Parsing
