@@ -125,12 +125,12 @@ not_given f x e = absurd cc
 -- nothing, with a tree
 pub give_exact : {A : Type 0} (a : A) (goes stops : List TokenKind) → Exact (g.Is a) (q.give a) true [] goes stops
 give_exact a goes stops = record {
-    sound = λ ts b rest e. (sym (given_tree a b ts rest e), given_rest a b ts rest e);
-    takes = λ ts b rest h quiet. rw (h.0, h.1) refl;
-    starts = λ ts b rest h. inr (refl, h.1);
-    lives = (a, λ rest quiet. (refl, refl));
-    local = λ ts. ([], refl, λ more h. refl);
-  }
+  sound = λ ts b rest e. (sym (given_tree a b ts rest e), given_rest a b ts rest e);
+  takes = λ ts b rest h quiet. rw (h.0, h.1) refl;
+  starts = λ ts b rest h. inr (refl, h.1);
+  lives = (a, λ rest quiet. (refl, refl));
+  local = λ ts. ([], refl, λ more h. refl);
+}
 
 -- one token
 one_local : (kinds : List TokenKind) (x : Leaf) (ts : List Leaf) (b : Bool) → is_in x.token.kind kinds ≡ b → Begins (g.OneOf kinds) [] [] →
@@ -160,16 +160,21 @@ one_exact kinds kind e = record { sound = sound; takes = takes; starts = λ ts a
   where
     leaf : Leaf
     leaf = record { number = 0; token = record { kind = kind; at = 0; len = 0 } }
+
     sound : (ts : List Leaf) (a : Leaf) (rest : List Leaf) → q.one_of kinds ts ≡ Ok (a, rest) → g.OneOf kinds ts a rest
     sound [] a rest h = absurd cc
     sound (x ∷ ts) a rest h = one_sound kinds x ts a rest (is_in x.token.kind kinds) refl h
+
     takes : (ts : List Leaf) (a : Leaf) (rest : List Leaf) → g.OneOf kinds ts a rest → heads [] rest ≡ false → q.one_of kinds ts ≡ Ok (a, rest)
     takes ts a rest h quiet = rw (h.0, h.1) refl
+
     stop : (more : List Leaf) → next [] ≡ next more → q.one_of kinds more ≡ Err (P1, length more)
     stop [] h = refl
     stop (y ∷ more) h = absurd cc
+
     begins : Begins (g.OneOf kinds) [] []
     begins = (leaf ∷ [], leaf, λ rest quiet. (refl, e))
+
     local : (ts : List Leaf) → Local (g.OneOf kinds) (q.one_of kinds) [] ts (q.one_of kinds ts)
     local [] = ([], [], refl, refl, begins, stop)
     local (x ∷ ts) = one_local kinds x ts (is_in x.token.kind kinds) refl begins
@@ -234,25 +239,43 @@ bind_starts R S false e2 f1 f2 ts b rest a mid (inr h) k = absurd cc
 bind_lives : {A B : Type 0} (R : Phrase A) (S : A → Phrase B) (e1 e2 : Bool) (f1 f2 s1 s2 : List TokenKind) (a : A) (b : B) → closes e2 f2 s2 s1 ≡ true →
     LivesAt e1 f1 s1 R a → LivesAt e2 f2 s2 (S a) b → LivesAt (e1 && e2) (firsts e1 f1 f2) s2 (g.◌>>=◌ R S) b
 bind_lives R S true true f1 f2 s1 s2 a b c one two = λ rest quiet. (a, rest, one rest (quiet_within s1 s2 rest c quiet), two rest quiet)
-bind_lives R S true false f1 f2 s1 s2 a b c one two =
-    (two.0, two.1, is_in_right two.0.token.kind f1 f2 two.2,
-      λ rest quiet. (a, two.0 ∷ (two.1 ++ rest), one (two.0 ∷ (two.1 ++ rest)) (in_apart two.0.token.kind f2 s1 c two.2), two.3 rest quiet))
+bind_lives R S true false f1 f2 s1 s2 a b c one two = (
+  two.0,
+  two.1,
+  is_in_right two.0.token.kind f1 f2 two.2,
+  λ rest quiet. (a, two.0 ∷ (two.1 ++ rest), one (two.0 ∷ (two.1 ++ rest)) (in_apart two.0.token.kind f2 s1 c two.2), two.3 rest quiet),
+)
 bind_lives R S false true f1 f2 s1 s2 a b c one two =
     (one.0, one.1, one.2, λ rest quiet. (a, rest, one.3 rest (quiet_within s1 s2 rest c quiet), two rest quiet))
-bind_lives R S false false f1 f2 s1 s2 a b c one two =
-    (one.0, one.1 ++ (two.0 ∷ two.1), one.2, λ rest quiet.
-      (a, two.0 ∷ (two.1 ++ rest), subst (λ (us : List Leaf). R (one.0 ∷ us) a (two.0 ∷ (two.1 ++ rest))) (sym (append_assoc one.1 (two.0 ∷ two.1) rest))
-        (one.3 (two.0 ∷ (two.1 ++ rest)) (in_apart two.0.token.kind f2 s1 c two.2)), two.3 rest quiet))
+bind_lives R S false false f1 f2 s1 s2 a b c one two = (
+  one.0,
+  one.1 ++ (two.0 ∷ two.1),
+  one.2,
+  λ rest quiet. (
+    a,
+    two.0 ∷ (two.1 ++ rest),
+    subst (λ (us : List Leaf). R (one.0 ∷ us) a (two.0 ∷ (two.1 ++ rest))) (sym (append_assoc one.1 (two.0 ∷ two.1) rest))
+        (one.3 (two.0 ∷ (two.1 ++ rest)) (in_apart two.0.token.kind f2 s1 c two.2)),
+    two.3 rest quiet,
+  ),
+)
 
 -- the front of a first phrase, with a second one behind it
 pub begins_first : {A B : Type 0} (R : Phrase A) (S : A → Phrase B) (e2 : Bool) (f2 s1 s2 : List TokenKind) (front : List Leaf) → closes e2 f2 s2 s1 ≡ true →
     (one : Begins R s1 front) → (b : B) × LivesAt e2 f2 s2 (S one.1) b → Begins (g.◌>>=◌ R S) s2 front
 begins_first R S true f2 s1 s2 front c one b =
     (one.0, b.0, λ rest quiet. (one.1, rest, one.2 rest (quiet_within s1 s2 rest c quiet), b.1 rest quiet))
-begins_first R S false f2 s1 s2 front c one b =
-    (one.0 ++ (b.1.0 ∷ b.1.1), b.0, λ rest quiet.
-      (one.1, b.1.0 ∷ (b.1.1 ++ rest), subst (λ (us : List Leaf). R (front ++ us) one.1 (b.1.0 ∷ (b.1.1 ++ rest))) (sym (append_assoc one.0 (b.1.0 ∷ b.1.1) rest))
-        (one.2 (b.1.0 ∷ (b.1.1 ++ rest)) (in_apart b.1.0.token.kind f2 s1 c b.1.2)), b.1.3 rest quiet))
+begins_first R S false f2 s1 s2 front c one b = (
+  one.0 ++ (b.1.0 ∷ b.1.1),
+  b.0,
+  λ rest quiet. (
+    one.1,
+    b.1.0 ∷ (b.1.1 ++ rest),
+    subst (λ (us : List Leaf). R (front ++ us) one.1 (b.1.0 ∷ (b.1.1 ++ rest))) (sym (append_assoc one.0 (b.1.0 ∷ b.1.1) rest))
+        (one.2 (b.1.0 ∷ (b.1.1 ++ rest)) (in_apart b.1.0.token.kind f2 s1 c b.1.2)),
+    b.1.3 rest quiet,
+  ),
+)
 
 -- a first phrase that was read, with the front of a second one behind it
 begins_second : {A B : Type 0} (R : Phrase A) (S : A → Phrase B) (p : Parser A) (e2 : Bool) (f2 s1 s2 : List TokenKind) (a : A) (used mid front rest : List Leaf) → closes e2 f2 s2 s1 ≡ true →
@@ -262,14 +285,24 @@ begins_second R S p true f2 s1 s2 a used mid [] rest c sound one e two live =
     ([], live.0, λ left quiet. (a, left, subst (λ (us : List Leaf). R (us ++ left) a left) (sym (append-nil used)) (sound (used ++ left) left (one left (inr (quiet_within s1 s2 left c quiet)))), live.1 left quiet))
 begins_second R S p false f2 s1 s2 a used mid [] rest c sound one e two live =
     let x = live.1.0 in
-    let w = live.1.1 in
-    (x ∷ w, live.0, λ left quiet.
-      (a, x ∷ (w ++ left), subst (λ (us : List Leaf). R (us ++ (x ∷ (w ++ left))) a (x ∷ (w ++ left))) (sym (append-nil used))
-        (sound (used ++ (x ∷ (w ++ left))) (x ∷ (w ++ left)) (one (x ∷ (w ++ left)) (inr (in_apart x.token.kind f2 s1 c live.1.2)))), live.1.3 left quiet))
-begins_second R S p e2 f2 s1 s2 a used mid (x ∷ front) rest c sound one e two live =
-    (two.0, two.1, λ left quiet.
+    let w = live.1.1 in (
+      x ∷ w,
+      live.0,
+      λ left quiet. (
+        a,
+        x ∷ (w ++ left),
+        subst (λ (us : List Leaf). R (us ++ (x ∷ (w ++ left))) a (x ∷ (w ++ left))) (sym (append-nil used))
+            (sound (used ++ (x ∷ (w ++ left))) (x ∷ (w ++ left)) (one (x ∷ (w ++ left)) (inr (in_apart x.token.kind f2 s1 c live.1.2)))),
+        live.1.3 left quiet,
+      ),
+    )
+begins_second R S p e2 f2 s1 s2 a used mid (x ∷ front) rest c sound one e two live = (
+  two.0,
+  two.1,
+  λ left quiet.
       let us : List Leaf = x ∷ (front ++ (two.0 ++ left)) in
-      (a, us, subst (λ (vs : List Leaf). R vs a us) (sym (append_assoc used (x ∷ front) (two.0 ++ left))) (sound (used ++ us) us (one us (inl (ap next e)))), two.2 left quiet))
+      (a, us, subst (λ (vs : List Leaf). R vs a us) (sym (append_assoc used (x ∷ front) (two.0 ++ left))) (sound (used ++ us) us (one us (inl (ap next e)))), two.2 left quiet),
+)
 
 -- a second phrase at the token behind a first one, where it stopped or not
 alike_mid : (e2 : Bool) (f2 s1 s2 : List TokenKind) (mid used rest more : List Leaf) → closes e2 f2 s2 s1 ≡ true → mid ≡ used ++ rest → Alike s2 rest more →
@@ -288,22 +321,30 @@ bind_local_second : {A B : Type 0} (R : Phrase A) (S : A → Phrase B) (p : Pars
     ((us : List Leaf) (b : B) (left : List Leaf) → f a us ≡ Ok (b, left) → (heads f2 us ≡ true) ⊎ ((e2 ≡ true) × (us ≡ left))) → (b : B) × LivesAt e2 f2 s2 (S a) b →
     (used : List Leaf) → ts ≡ used ++ mid → ((more : List Leaf) → Alike s1 mid more → p (used ++ more) ≡ Ok (a, more)) →
     (r : Read B) → Local (S a) (f a) s2 mid r → Local (g.◌>>=◌ R S) (q.◌>>=◌ p f) s2 ts r
-bind_local_second {A} {B} R S p f e2 f2 s1 s2 ts a mid c sound starts live used split loc (Ok y) two =
-    (used ++ two.0, split ∙ ap (λ us. used ++ us) two.1 ∙ sym (append_assoc used two.0 y.1), λ more k.
+bind_local_second {A} {B} R S p f e2 f2 s1 s2 ts a mid c sound starts live used split loc (Ok y) two = (
+  used ++ two.0,
+  split ∙ ap (λ us. used ++ us) two.1 ∙ sym (append_assoc used two.0 y.1),
+  λ more k.
       let first_token : (two.0 ≡ []) → (heads f2 more ≡ true) ⊎ (e2 ≡ true) = λ none.
-          let read : f a more ≡ Ok (y.0, more) = ap (λ us. f a (us ++ more)) (sym none) ∙ two.2 more k in
-          weaken (starts more y.0 more read) in
+      let read : f a more ≡ Ok (y.0, more) = ap (λ us. f a (us ++ more)) (sym none) ∙ two.2 more k in
+      weaken (starts more y.0 more read) in
       let one : p (used ++ (two.0 ++ more)) ≡ Ok (a, two.0 ++ more) = loc (two.0 ++ more) (alike_mid e2 f2 s1 s2 mid two.0 y.1 more c two.1 k first_token) in
-      ap (λ us. after (p us) f) (append_assoc used two.0 more) ∙ ap (λ r. after r f) one ∙ two.2 more k)
+      ap (λ us. after (p us) f) (append_assoc used two.0 more) ∙ ap (λ r. after r f) one ∙ two.2 more k,
+)
   where
     weaken : {us left : List Leaf} → (heads f2 us ≡ true) ⊎ ((e2 ≡ true) × (us ≡ left)) → (heads f2 us ≡ true) ⊎ (e2 ≡ true)
     weaken (inl h) = inl h
     weaken (inr h) = inr h.0
-bind_local_second R S p f e2 f2 s1 s2 ts a mid c sound starts live used split loc (Err y) two =
-    (used ++ two.0, two.1, split ∙ ap (λ us. used ++ us) two.2 ∙ sym (append_assoc used two.0 two.1), two.3,
-      begins_second R S p e2 f2 s1 s2 a used mid two.0 two.1 c sound loc two.2 two.4 live, λ more k.
+bind_local_second R S p f e2 f2 s1 s2 ts a mid c sound starts live used split loc (Err y) two = (
+  used ++ two.0,
+  two.1,
+  split ∙ ap (λ us. used ++ us) two.2 ∙ sym (append_assoc used two.0 two.1),
+  two.3,
+  begins_second R S p e2 f2 s1 s2 a used mid two.0 two.1 c sound loc two.2 two.4 live,
+  λ more k.
       let one : p (used ++ (two.0 ++ more)) ≡ Ok (a, two.0 ++ more) = loc (two.0 ++ more) (inl (ap next two.2 ∙ next_append two.0 two.1 more k)) in
-      ap (λ us. after (p us) f) (append_assoc used two.0 more) ∙ ap (λ r. after r f) one ∙ two.5 more k)
+      ap (λ us. after (p us) f) (append_assoc used two.0 more) ∙ ap (λ r. after r f) one ∙ two.5 more k,
+)
 
 -- at some tokens alone: what follows may differ from tree to tree
 pub bind_local : {A B : Type 0} (R : Phrase A) (S : A → Phrase B) (p : Parser A) (f : A → Parser B) (e2 : A → Bool) (f2 s1 s2 : List TokenKind) (ts : List Leaf) →
@@ -320,17 +361,17 @@ pub bind_exact : {A B : Type 0} {R : Phrase A} {S : A → Phrase B} {p : Parser 
     Exact R p e1 f1 g1 s1 → ((a : A) → Exact (S a) (f a) e2 f2 g2 s2) → follows e2 f2 g2 g1 ≡ true → closes e2 f2 s2 s1 ≡ true →
     Exact (g.◌>>=◌ R S) (q.◌>>=◌ p f) (e1 && e2) (firsts e1 f1 f2) g2 s2
 bind_exact {A} {B} {R} {S} {p} {f} {e1} {e2} {f1} {f2} {g1} {g2} {s1} {s2} one two c d = record {
-    sound = λ ts b rest h. bind_sound R S p f ts b rest (λ a mid e. one.sound ts a mid e) (λ a mid e. (two a).sound mid b rest e) (p ts) refl h;
-    takes = λ ts b rest h quiet.
+  sound = λ ts b rest h. bind_sound R S p f ts b rest (λ a mid e. one.sound ts a mid e) (λ a mid e. (two a).sound mid b rest e) (p ts) refl h;
+  takes = λ ts b rest h quiet.
       ap (λ r. after r f) (one.takes ts h.0 h.1 h.2 (quiet_mid e2 f2 g2 g1 h.1 rest c ((two h.0).starts h.1 b rest h.3) quiet)) ∙ (two h.0).takes h.1 b rest h.3 quiet;
-    starts = λ ts b rest h. bind_starts R S e1 e2 f1 f2 ts b rest h.0 h.1 (one.starts ts h.0 h.1 h.2) ((two h.0).starts h.1 b rest h.3);
-    lives = (
-      (two one.lives.0).lives.0,
-      bind_lives R S e1 e2 f1 f2 s1 s2 one.lives.0 (two one.lives.0).lives.0 d one.lives.1 (two one.lives.0).lives.1
-    );
-    local = λ ts. bind_local R S p f (λ a. e2) f2 s1 s2 ts (λ a. d) one.sound (λ a us b left h. (two a).starts us b left ((two a).sound us b left h)) (λ a. (two a).lives) (p ts) refl (one.local ts)
+  starts = λ ts b rest h. bind_starts R S e1 e2 f1 f2 ts b rest h.0 h.1 (one.starts ts h.0 h.1 h.2) ((two h.0).starts h.1 b rest h.3);
+  lives = (
+    (two one.lives.0).lives.0,
+    bind_lives R S e1 e2 f1 f2 s1 s2 one.lives.0 (two one.lives.0).lives.0 d one.lives.1 (two one.lives.0).lives.1,
+  );
+  local = λ ts. bind_local R S p f (λ a. e2) f2 s1 s2 ts (λ a. d) one.sound (λ a us b left h. (two a).starts us b left ((two a).sound us b left h)) (λ a. (two a).lives) (p ts) refl (one.local ts)
       (λ a mid e. (two a).local mid);
-  }
+}
 
 -- one phrase or another, by the next token
 choose_sound : {A : Type 0} (R S : Phrase A) (p r : Parser A) (kinds : List TokenKind) (ts : List Leaf) (a : A) (rest : List Leaf) → (p ts ≡ Ok (a, rest) → R ts a rest) → (r ts ≡ Ok (a, rest) → S ts a rest) →
@@ -366,9 +407,15 @@ choose_left {A} R S p r f1 g1 s1 kinds stops ts e w h (Ok x) one =
     here [] split loc more (inl k) = sym (heads_next kinds ts more (ap next split ∙ k)) ∙ h
     here [] split loc more (inr k) = takes_some e x.0 (loc [] (inr refl))
     here (y ∷ used) split loc more k = sym (ap (heads kinds) split) ∙ h
-choose_left R S p r f1 g1 s1 kinds stops ts e w h (Err x) one =
-    (one.0, one.1, one.2, one.3, (one.4.0, one.4.1, λ rest quiet. inl (one.4.2 rest (quiet_within s1 stops rest w quiet))), λ more k.
-      ap (λ b. cond b (p (one.0 ++ more)) (r (one.0 ++ more))) (sym (ap (heads kinds) one.2 ∙ heads_append kinds one.0 one.1 more k) ∙ h) ∙ one.5 more k)
+choose_left R S p r f1 g1 s1 kinds stops ts e w h (Err x) one = (
+  one.0,
+  one.1,
+  one.2,
+  one.3,
+  (one.4.0, one.4.1, λ rest quiet. inl (one.4.2 rest (quiet_within s1 stops rest w quiet))),
+  λ more k.
+      ap (λ b. cond b (p (one.0 ++ more)) (r (one.0 ++ more))) (sym (ap (heads kinds) one.2 ∙ heads_append kinds one.0 one.1 more k) ∙ h) ∙ one.5 more k,
+)
 
 choose_right : {A : Type 0} (R S : Phrase A) (p r : Parser A) (e2 : Bool) (f2 g2 s2 kinds stops : List TokenKind) (ts : List Leaf) → Exact S r e2 f2 g2 s2 → within s2 stops ≡ true →
     (e2 ≡ true → within kinds stops ≡ true) → heads kinds ts ≡ false → (res : Read A) → Local S r s2 ts res → Local (g.Either R S) (q.choose kinds p r) stops ts res
@@ -376,14 +423,20 @@ choose_right {A} R S p r e2 f2 g2 s2 kinds stops ts e w v h (Ok x) one =
     (one.0, one.1, λ more k. ap (λ b. cond b (p (one.0 ++ more)) (r (one.0 ++ more))) (here e2 e v one.0 one.1 one.2 more k) ∙ one.2 more (alike_within s2 stops x.1 more w k))
   where
     here : (e2 : Bool) → Exact S r e2 f2 g2 s2 → (e2 ≡ true → within kinds stops ≡ true) → (used : List Leaf) → ts ≡ used ++ x.1 → ((more : List Leaf) → Alike s2 x.1 more → r (used ++ more) ≡ Ok (x.0, more)) →
-      (more : List Leaf) → Alike stops x.1 more → heads kinds (used ++ more) ≡ false
+        (more : List Leaf) → Alike stops x.1 more → heads kinds (used ++ more) ≡ false
     here e2 e v [] split loc more (inl k) = sym (heads_next kinds ts more (ap next split ∙ k)) ∙ h
     here true e v [] split loc more (inr k) = quiet_within kinds stops more (v refl) k
     here false e v [] split loc more (inr k) = takes_some e x.0 (loc [] (inr refl))
     here e2 e v (y ∷ used) split loc more k = sym (ap (heads kinds) split) ∙ h
-choose_right R S p r e2 f2 g2 s2 kinds stops ts e w v h (Err x) one =
-    (one.0, one.1, one.2, one.3, (one.4.0, one.4.1, λ rest quiet. inr (one.4.2 rest (quiet_within s2 stops rest w quiet))), λ more k.
-      ap (λ b. cond b (p (one.0 ++ more)) (r (one.0 ++ more))) (sym (ap (heads kinds) one.2 ∙ heads_append kinds one.0 one.1 more k) ∙ h) ∙ one.5 more k)
+choose_right R S p r e2 f2 g2 s2 kinds stops ts e w v h (Err x) one = (
+  one.0,
+  one.1,
+  one.2,
+  one.3,
+  (one.4.0, one.4.1, λ rest quiet. inr (one.4.2 rest (quiet_within s2 stops rest w quiet))),
+  λ more k.
+      ap (λ b. cond b (p (one.0 ++ more)) (r (one.0 ++ more))) (sym (ap (heads kinds) one.2 ∙ heads_append kinds one.0 one.1 more k) ∙ h) ∙ one.5 more k,
+)
 
 choose_lives : {A : Type 0} (R S : Phrase A) (e2 : Bool) (f1 f2 s2 stops : List TokenKind) (a : A) → within s2 stops ≡ true → LivesAt e2 f2 s2 S a → LivesAt e2 (f1 ++ f2) stops (g.Either R S) a
 choose_lives R S true f1 f2 s2 stops a w live = λ rest quiet. inr (live rest (quiet_within s2 stops rest w quiet))
@@ -394,27 +447,32 @@ pub choose_exact : {A : Type 0} {R S : Phrase A} {p r : Parser A} {e2 : Bool} {f
     within s1 stops ≡ true → within s2 stops ≡ true → (e2 ≡ true → (within kinds goes ≡ true) × (within kinds stops ≡ true)) →
     Exact (g.Either R S) (q.choose kinds p r) e2 (f1 ++ f2) goes stops
 choose_exact {A} {R} {S} {p} {r} {e2} {f1} {f2} {g1} {g2} {s1} {s2} kinds goes stops one two w a v1 v2 w1 w2 x = record {
-    sound = λ ts b rest h. choose_sound R S p r kinds ts b rest (one.sound ts b rest) (two.sound ts b rest) (heads kinds ts) h;
-    takes = takes;
-    starts = starts;
-    lives = (two.lives.0, choose_lives R S e2 f1 f2 s2 stops two.lives.0 w2 two.lives.1);
-    local = λ ts. local ts (heads kinds ts) refl;
-  }
+  sound = λ ts b rest h. choose_sound R S p r kinds ts b rest (one.sound ts b rest) (two.sound ts b rest) (heads kinds ts) h;
+  takes = takes;
+  starts = starts;
+  lives = (two.lives.0, choose_lives R S e2 f1 f2 s2 stops two.lives.0 w2 two.lives.1);
+  local = λ ts. local ts (heads kinds ts) refl;
+}
   where
     left : (ts : List Leaf) (b : A) (rest : List Leaf) → R ts b rest → heads kinds ts ≡ true
     left ts b rest h = heads_within f1 kinds ts w (first_taken one ts b rest h)
+
     right : (ts : List Leaf) (rest : List Leaf) → heads goes rest ≡ false → (heads f2 ts ≡ true) ⊎ ((e2 ≡ true) × (ts ≡ rest)) → heads kinds ts ≡ false
     right ts rest quiet (inl h) = heads_apart f2 kinds ts a h
     right ts rest quiet (inr h) = ap (heads kinds) h.1 ∙ quiet_within kinds goes rest (x h.0).0 quiet
+
     takes : (ts : List Leaf) (b : A) (rest : List Leaf) → g.Either R S ts b rest → heads goes rest ≡ false → q.choose kinds p r ts ≡ Ok (b, rest)
     takes ts b rest (inl h) quiet = ap (λ t. cond t (p ts) (r ts)) (left ts b rest h) ∙ one.takes ts b rest h (quiet_within g1 goes rest v1 quiet)
     takes ts b rest (inr h) quiet = ap (λ t. cond t (p ts) (r ts)) (right ts rest quiet (two.starts ts b rest h)) ∙ two.takes ts b rest h (quiet_within g2 goes rest v2 quiet)
+
     behind : (ts rest : List Leaf) → (heads f2 ts ≡ true) ⊎ ((e2 ≡ true) × (ts ≡ rest)) → (heads (f1 ++ f2) ts ≡ true) ⊎ ((e2 ≡ true) × (ts ≡ rest))
     behind ts rest (inl h) = inl (heads_right f1 f2 ts h)
     behind ts rest (inr h) = inr h
+
     starts : (ts : List Leaf) (b : A) (rest : List Leaf) → g.Either R S ts b rest → (heads (f1 ++ f2) ts ≡ true) ⊎ ((e2 ≡ true) × (ts ≡ rest))
     starts ts b rest (inl h) = inl (heads_left f1 f2 ts (first_taken one ts b rest h))
     starts ts b rest (inr h) = behind ts rest (two.starts ts b rest h)
+
     local : (ts : List Leaf) (t : Bool) → heads kinds ts ≡ t → Local (g.Either R S) (q.choose kinds p r) stops ts (cond t (p ts) (r ts))
     local ts true h = choose_left R S p r f1 g1 s1 kinds stops ts one w1 h (p ts) (one.local ts)
     local ts false h = choose_right R S p r e2 f2 g2 s2 kinds stops ts two w2 (λ e. (x e).1) h (r ts) (two.local ts)
@@ -434,12 +492,12 @@ local_wider R p s stops ts (Err x) w l = (l.0, l.1, l.2, l.3, begins_wider R s s
 pub wider : {A : Type 0} {R : Phrase A} {p : Parser A} {e : Bool} {f gs s : List TokenKind} (first goes stops : List TokenKind) → Exact R p e f gs s → within f first ≡ true → within gs goes ≡ true → within s stops ≡ true →
     Exact R p e first goes stops
 wider {A} {R} {p} {e} {f} {gs} {s} first goes stops one v w u = record {
-    sound = one.sound;
-    takes = λ ts a rest h quiet. one.takes ts a rest h (quiet_within gs goes rest w quiet);
-    starts = λ ts a rest h. more ts rest (one.starts ts a rest h);
-    lives = (one.lives.0, lives_wider R e f first s stops one.lives.0 v u one.lives.1);
-    local = λ ts. local_wider R p s stops ts (p ts) u (one.local ts);
-  }
+  sound = one.sound;
+  takes = λ ts a rest h quiet. one.takes ts a rest h (quiet_within gs goes rest w quiet);
+  starts = λ ts a rest h. more ts rest (one.starts ts a rest h);
+  lives = (one.lives.0, lives_wider R e f first s stops one.lives.0 v u one.lives.1);
+  local = λ ts. local_wider R p s stops ts (p ts) u (one.local ts);
+}
   where
     more : (ts rest : List Leaf) → (heads f ts ≡ true) ⊎ ((e ≡ true) × (ts ≡ rest)) → (heads first ts ≡ true) ⊎ ((e ≡ true) × (ts ≡ rest))
     more ts rest (inl h) = inl (heads_within f first ts v h)
@@ -469,12 +527,12 @@ Ends {A} p kinds = (ts : List Leaf) (a : A) (rest : List Leaf) → p ts ≡ Ok (
 pub before_exact : {A : Type 0} {R : Phrase A} {p : Parser A} {e : Bool} {f gs s : List TokenKind} (kinds goes : List TokenKind) → Exact R p e f gs s → Ends p kinds → within gs (kinds ++ goes) ≡ true →
     within kinds s ≡ true → Exact (g.Before kinds R) p e f goes s
 before_exact {A} {R} {p} {e} {f} {gs} {s} kinds goes one ends w v = record {
-    sound = λ ts a rest h. (one.sound ts a rest h, ends ts a rest h);
-    takes = λ ts a rest h quiet. one.takes ts a rest h.0 (quiet_within gs (kinds ++ goes) rest w (quiet_both kinds goes rest h.1 quiet));
-    starts = λ ts a rest h. one.starts ts a rest h.0;
-    lives = (one.lives.0, before_lives R kinds e f s one.lives.0 v one.lives.1);
-    local = λ ts. before_local R kinds p s ts (p ts) v (one.local ts);
-  }
+  sound = λ ts a rest h. (one.sound ts a rest h, ends ts a rest h);
+  takes = λ ts a rest h quiet. one.takes ts a rest h.0 (quiet_within gs (kinds ++ goes) rest w (quiet_both kinds goes rest h.1 quiet));
+  starts = λ ts a rest h. one.starts ts a rest h.0;
+  lives = (one.lives.0, before_lives R kinds e f s one.lives.0 v one.lives.1);
+  local = λ ts. before_local R kinds p s ts (p ts) v (one.local ts);
+}
 
 -- a reader that stops at some kinds, with which no phrase begins
 deep_local : {A : Type 0} {R : Phrase A} {p : Parser A} {f gs s : List TokenKind} (kinds : List TokenKind) (ts : List Leaf) → Exact R p false f gs s → heads kinds ts ≡ false → (r : Read A) → Local R p s ts r →
@@ -486,24 +544,32 @@ deep_local {A} {R} {p} {f} {gs} {s} kinds ts one h (Ok x) l =
     here [] split loc more (inl k) = sym (heads_next kinds ts more (ap next split ∙ k)) ∙ h
     here [] split loc more (inr k) = takes_some one x.0 (loc [] (inr refl))
     here (y ∷ used) split loc more k = sym (ap (heads kinds) split) ∙ h
-deep_local {A} {R} {p} kinds ts one h (Err x) l =
-    (l.0, l.1, l.2, l.3, l.4, λ more k.
-      ap (λ t. cond t (q.too_deep (l.0 ++ more)) (p (l.0 ++ more))) (sym (ap (heads kinds) l.2 ∙ heads_append kinds l.0 l.1 more k) ∙ h) ∙ l.5 more k)
+deep_local {A} {R} {p} kinds ts one h (Err x) l = (
+  l.0,
+  l.1,
+  l.2,
+  l.3,
+  l.4,
+  λ more k.
+      ap (λ t. cond t (q.too_deep (l.0 ++ more)) (p (l.0 ++ more))) (sym (ap (heads kinds) l.2 ∙ heads_append kinds l.0 l.1 more k) ∙ h) ∙ l.5 more k,
+)
 
 pub deep_exact : {A : Type 0} {R : Phrase A} {p : Parser A} {f gs s : List TokenKind} (kinds : List TokenKind) → Exact R p false f gs s → apart f kinds ≡ true → Exact R (q.choose kinds q.too_deep p) false f gs s
 deep_exact {A} {R} {p} {f} {gs} {s} kinds one c = record {
-    sound = λ ts a rest h. sound ts a rest (heads kinds ts) h;
-    takes = λ ts a rest h quiet. ap (λ t. cond t (q.too_deep ts) (p ts)) (heads_apart f kinds ts c (first_taken one ts a rest h)) ∙ one.takes ts a rest h quiet;
-    starts = one.starts;
-    lives = one.lives;
-    local = λ ts. local ts (heads kinds ts) refl;
-  }
+  sound = λ ts a rest h. sound ts a rest (heads kinds ts) h;
+  takes = λ ts a rest h quiet. ap (λ t. cond t (q.too_deep ts) (p ts)) (heads_apart f kinds ts c (first_taken one ts a rest h)) ∙ one.takes ts a rest h quiet;
+  starts = one.starts;
+  lives = one.lives;
+  local = λ ts. local ts (heads kinds ts) refl;
+}
   where
     sound : (ts : List Leaf) (a : A) (rest : List Leaf) (b : Bool) → cond b (q.too_deep ts) (p ts) ≡ Ok (a, rest) → R ts a rest
     sound ts a rest true h = not_given (P2, length ts) (a, rest) h
     sound ts a rest false h = one.sound ts a rest h
+
     begins : Begins R s []
     begins = let live = one.lives.1 in (live.0 ∷ live.1, one.lives.0, λ rest quiet. live.3 rest quiet)
+
     local : (ts : List Leaf) (b : Bool) → heads kinds ts ≡ b → Local R (q.choose kinds q.too_deep p) s ts (cond b (q.too_deep ts) (p ts))
     local ts true h = ([], ts, refl, refl, begins, λ more k. ap (λ t. cond t (q.too_deep more) (p more)) (sym (heads_next kinds ts more k) ∙ h))
     local ts false h = deep_local kinds ts one h (p ts) (one.local ts)
@@ -575,10 +641,14 @@ bind_agrees_second {A} {B} R S p t f h e2 f2 s1 s2 ts c sound lives same nd (Ok 
     go : ((f x.0 x.1 ≡ h x.0 x.1) × NotDeep (f x.0 x.1)) ⊎ Deeper (S x.0) s2 (f x.0 x.1) x.1 → ((after (p ts) f ≡ after (t ts) h) × NotDeep (after (p ts) f)) ⊎ Deeper (g.◌>>=◌ R S) s2 (after (p ts) f) ts
     go (inl k) = inl (ap (λ r. after r f) (same ∙ e) ∙ k.0 ∙ sym (ap (λ r. after r h) e), subst (λ (r : Read B). NotDeep r) (sym (ap (λ r. after r f) (same ∙ e))) k.1)
     go (inr d) = inr (
-        l.0 ++ d.0, d.1, d.2, l.1 ∙ ap (λ us. l.0 ++ us) d.3 ∙ sym (append_assoc l.0 d.0 (d.1 ∷ d.2)), ap (λ r. after r f) (same ∙ e) ∙ d.4,
-        subst (λ (us : List Leaf). Begins (g.◌>>=◌ R S) s2 us) (sym (append_assoc l.0 d.0 (d.1 ∷ [])))
-          (begins_second R S t e2 f2 s1 s2 x.0 l.0 x.1 (d.0 ++ d.1 ∷ []) d.2 c (λ us left i. sound us x.0 left i) l.2 (d.3 ∙ sym (append_assoc d.0 (d.1 ∷ []) d.2)) d.5 (lives x.0))
-      )
+      l.0 ++ d.0,
+      d.1,
+      d.2,
+      l.1 ∙ ap (λ us. l.0 ++ us) d.3 ∙ sym (append_assoc l.0 d.0 (d.1 ∷ d.2)),
+      ap (λ r. after r f) (same ∙ e) ∙ d.4,
+      subst (λ (us : List Leaf). Begins (g.◌>>=◌ R S) s2 us) (sym (append_assoc l.0 d.0 (d.1 ∷ [])))
+          (begins_second R S t e2 f2 s1 s2 x.0 l.0 x.1 (d.0 ++ d.1 ∷ []) d.2 c (λ us left i. sound us x.0 left i) l.2 (d.3 ∙ sym (append_assoc d.0 (d.1 ∷ []) d.2)) d.5 (lives x.0)),
+    )
 
 pub bind_agrees : {A B : Type 0} {R : Phrase A} {S : A → Phrase B} {p t : Parser A} {f h : A → Parser B} {e1 e2 : Bool} {f1 f2 g1 g2 s1 s2 : List TokenKind} →
     Exact R t e1 f1 g1 s1 → ((a : A) → Exact (S a) (h a) e2 f2 g2 s2) → closes e2 f2 s2 s1 ≡ true → Agrees R s1 p t → ((a : A) → Agrees (S a) s2 (f a) (h a)) →
@@ -602,9 +672,11 @@ choose_agrees {A} {R} {S} {p} {t} {r} {u} {s1} kinds stops {s2} v w a b = record
     left : (ts : List Leaf) → ((p ts ≡ t ts) × NotDeep (p ts)) ⊎ Deeper R s1 (p ts) ts → ((p ts ≡ t ts) × NotDeep (p ts)) ⊎ Deeper (g.Either R S) stops (p ts) ts
     left ts (inl k) = inl k
     left ts (inr d) = inr (deeper_left R S s1 stops (p ts) ts v d)
+
     right : (ts : List Leaf) → ((r ts ≡ u ts) × NotDeep (r ts)) ⊎ Deeper S s2 (r ts) ts → ((r ts ≡ u ts) × NotDeep (r ts)) ⊎ Deeper (g.Either R S) stops (r ts) ts
     right ts (inl k) = inl k
     right ts (inr d) = inr (deeper_right R S s2 stops (r ts) ts w d)
+
     go : (ts : List Leaf) (x : Bool) → ((cond x (p ts) (r ts) ≡ cond x (t ts) (u ts)) × NotDeep (cond x (p ts) (r ts))) ⊎ Deeper (g.Either R S) stops (cond x (p ts) (r ts)) ts
     go ts true = left ts (a.agree ts)
     go ts false = right ts (b.agree ts)

@@ -124,21 +124,49 @@ open_group : (levels : ℕ) (x : Leaf) → x.token.kind ≡ k.ParenOpen → Begi
 unfolding g.Unit_in
 open_group levels x e =
     let live = (formula_exact levels).lives in
-    let close : Leaf = record { number = 0; token = record { kind = k.ParenClose; at = 0; len = 0 } } in
-    ((live.1.0 ∷ live.1.1) ++ (close ∷ []), n.Group live.0, λ rest quiet.
-      inr (inl (x, live.1.0 ∷ ((live.1.1 ++ (close ∷ [])) ++ rest), (refl, rw e refl),
-        (live.0, close ∷ rest, subst (λ (us : List Leaf). g.Formula levels (live.1.0 ∷ us) live.0 (close ∷ rest)) (sym (append_assoc live.1.1 (close ∷ []) rest)) (live.1.3 (close ∷ rest) refl),
-          (close, rest, (refl, refl), (refl, refl))))))
+    let close : Leaf = record { number = 0; token = record { kind = k.ParenClose; at = 0; len = 0 } } in (
+      (live.1.0 ∷ live.1.1) ++ (close ∷ []),
+      n.Group live.0,
+      λ rest quiet.
+          inr (inl (
+            x,
+            live.1.0 ∷ ((live.1.1 ++ (close ∷ [])) ++ rest),
+            (refl, rw e refl),
+            (
+              live.0,
+              close ∷ rest,
+              subst (λ (us : List Leaf). g.Formula levels (live.1.0 ∷ us) live.0 (close ∷ rest)) (sym (append_assoc live.1.1 (close ∷ []) rest)) (live.1.3 (close ∷ rest) refl),
+              (close, rest, (refl, refl), (refl, refl)),
+            ),
+          )),
+    )
 
 open_forall : (levels : ℕ) (x : Leaf) → x.token.kind ≡ k.ForallOtherWord → Begins (g.Unit_in (suc levels)) form_goes ([] ++ x ∷ [])
 unfolding g.Unit_in
 open_forall levels x e =
     let live = (formula_exact levels).lives in
     let name : Leaf = record { number = 0; token = record { kind = k.Name; at = 0; len = 0 } } in
-    let dot : Leaf = record { number = 0; token = record { kind = k.Dot; at = 0; len = 0 } } in
-    (name ∷ dot ∷ live.1.0 ∷ live.1.1, n.Forall x name live.0, λ rest quiet.
-      inr (inr (inl (x, name ∷ dot ∷ live.1.0 ∷ (live.1.1 ++ rest), (refl, rw e refl), (name, dot ∷ live.1.0 ∷ (live.1.1 ++ rest), (refl, refl), (dot, live.1.0 ∷ (live.1.1 ++ rest), (refl, refl),
-        (live.0, rest, (live.1.3 rest quiet, quiet_within joins form_goes rest refl quiet), (refl, refl))))))))
+    let dot : Leaf = record { number = 0; token = record { kind = k.Dot; at = 0; len = 0 } } in (
+      name ∷ dot ∷ live.1.0 ∷ live.1.1,
+      n.Forall x name live.0,
+      λ rest quiet.
+          inr (inr (inl (
+            x,
+            name ∷ dot ∷ live.1.0 ∷ (live.1.1 ++ rest),
+            (refl, rw e refl),
+            (
+              name,
+              dot ∷ live.1.0 ∷ (live.1.1 ++ rest),
+              (refl, refl),
+              (
+                dot,
+                live.1.0 ∷ (live.1.1 ++ rest),
+                (refl, refl),
+                (live.0, rest, (live.1.3 rest quiet, quiet_within joins form_goes rest refl quiet), (refl, refl)),
+              ),
+            ),
+          ))),
+    )
 
 opens : (levels : ℕ) (x : Leaf) → is_in x.token.kind openers ≡ true → Begins (g.Unit_in (suc levels)) form_goes ([] ++ x ∷ [])
 opens levels x h = first (or_cases (sameb the_type x.token.kind k.NotWord) (is_in x.token.kind (k.ParenOpen ∷ k.ForallOtherWord ∷ [])) h)
@@ -146,9 +174,11 @@ opens levels x h = first (or_cases (sameb the_type x.token.kind k.NotWord) (is_i
     third : (sameb the_type x.token.kind k.ForallOtherWord ≡ true) ⊎ (is_in x.token.kind [] ≡ true) → Begins (g.Unit_in (suc levels)) form_goes ([] ++ x ∷ [])
     third (inl e) = open_forall levels x (same x.token.kind k.ForallOtherWord e)
     third (inr e) = absurd cc
+
     second : (sameb the_type x.token.kind k.ParenOpen ≡ true) ⊎ (is_in x.token.kind (k.ForallOtherWord ∷ []) ≡ true) → Begins (g.Unit_in (suc levels)) form_goes ([] ++ x ∷ [])
     second (inl e) = open_group levels x (same x.token.kind k.ParenOpen e)
     second (inr e) = third (or_cases (sameb the_type x.token.kind k.ForallOtherWord) (is_in x.token.kind []) e)
+
     first : (sameb the_type x.token.kind k.NotWord ≡ true) ⊎ (is_in x.token.kind (k.ParenOpen ∷ k.ForallOtherWord ∷ []) ≡ true) → Begins (g.Unit_in (suc levels)) form_goes ([] ++ x ∷ [])
     first (inl e) = open_not levels x (same x.token.kind k.NotWord e)
     first (inr e) = second (or_cases (sameb the_type x.token.kind k.ParenOpen) (is_in x.token.kind (k.ForallOtherWord ∷ [])) e)
@@ -176,7 +206,7 @@ unit_agrees (suc levels) (suc more) h =
     let fewer : levels < more = omega arith in
     let a = unit_agrees levels more fewer in
     choose_agrees (k.NotWord ∷ []) form_goes refl refl (not_agrees (unit_exact more) a) (choose_agrees (k.ParenOpen ∷ []) form_goes refl refl (group_agrees (unit_exact more) a)
-      (choose_agrees (k.ForallOtherWord ∷ []) form_goes {s2 = side_goes} refl refl (forall_agrees (unit_exact more) a) (same_agrees plain_side)))
+    (choose_agrees (k.ForallOtherWord ∷ []) form_goes {s2 = side_goes} refl refl (forall_agrees (unit_exact more) a) (same_agrees plain_side)))
 
 body_agrees : (levels more : ℕ) → levels < more → (names : List Leaf) → Agrees (g.Body more names) [] (q.body levels names) (q.body more names)
 unfolding q.body q.formula_if_any
@@ -255,4 +285,3 @@ rest_agrees levels more h = choose_agrees (k.UnsafeWord ∷ []) [] refl refl (un
 pub file_agrees : (levels more : ℕ) → levels < more → Agrees (g.File more) rest_starts (q.file levels) (q.file more)
 unfolding g.File q.file q.next_decl q.next_rest
 file_agrees levels more h = bind_agrees (each_exact (decl_starts) decl_goes decl_goes (decl_exact) refl refl refl refl refl refl refl refl refl) (λ decls. bind_exact (w k.InitWord refl) (λ _. bind_exact (named_body_exact more) (λ init. bind_exact (each_exact (rest_starts) rest_starts rest_starts (rest_exact more) refl refl refl refl refl refl refl refl refl) (λ rests. give_exact _ rest_starts rest_starts) refl refl) refl refl) refl refl) refl (same_agrees (plain_decls)) (λ decls. bind_agrees (w k.InitWord refl) (λ _. bind_exact (named_body_exact more) (λ init. bind_exact (each_exact (rest_starts) rest_starts rest_starts (rest_exact more) refl refl refl refl refl refl refl refl refl) (λ rests. give_exact _ rest_starts rest_starts) refl refl) refl refl) refl (same_agrees (plain_one (k.InitWord ∷ []))) (λ _. bind_agrees (named_body_exact more) (λ init. bind_exact (each_exact (rest_starts) rest_starts rest_starts (rest_exact more) refl refl refl refl refl refl refl refl refl) (λ rests. give_exact _ rest_starts rest_starts) refl refl) refl (named_body_agrees levels more h) (λ init. bind_agrees (each_exact (rest_starts) rest_starts rest_starts (rest_exact more) refl refl refl refl refl refl refl refl refl) (λ rests. give_exact _ rest_starts rest_starts) refl (each_agrees (rest_starts) rest_starts rest_starts (rest_exact more) refl refl refl refl refl refl refl refl refl (rest_agrees levels more h)) (λ rests. same_agrees (λ ts. tt)))))
-

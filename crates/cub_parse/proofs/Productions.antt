@@ -188,14 +188,14 @@ pub branches_exact : (levels : ℕ) → Exact (p.Until (p.◌>>=◌ (p.Word k.Ba
 unfolding leaf
 branches_exact levels =
     until_exact (next_case_exact levels) (λ a h. let e = first_taken (next_case_exact levels) [] (Some a) [] h in cc) case_goes (λ ts a rest h quiet. (next_case_exact levels).takes ts (Some a) rest h quiet)
-      refl refl (leaf k.Bar, [], refl, λ rest quiet. (leaf k.Bar, rest, (refl, refl), inr (refl, refl))) refl refl
+    refl refl (leaf k.Bar, [], refl, λ rest quiet. (leaf k.Bar, rest, (refl, refl), inr (refl, refl))) refl refl
 
 pub branches_agrees : (levels : ℕ) {t : Parser (Option CaseNode)} → Agrees (p.◌>>=◌ (p.Word k.Bar) (λ _. p.Maybe (g.Case levels))) case_goes t (q.next_case levels) →
     Agrees (p.Until (p.◌>>=◌ (p.Word k.Bar) (λ _. p.Maybe (g.Case levels)))) case_goes (until t) (until (q.next_case levels))
 unfolding leaf
 branches_agrees levels {t} a =
     until_agrees (next_case_exact levels) (λ a h. let e = first_taken (next_case_exact levels) [] (Some a) [] h in cc) case_goes (λ ts a rest h quiet. (next_case_exact levels).takes ts (Some a) rest h quiet) t a
-      (leaf k.Bar, [], refl, λ rest quiet. (leaf k.Bar, rest, (refl, refl), inr (refl, refl))) refl refl
+    (leaf k.Bar, [], refl, λ rest quiet. (leaf k.Bar, rest, (refl, refl), inr (refl, refl))) refl refl
 
 pub cases_exact : (levels : ℕ) → Exact (g.Cases levels) (q.cases levels) false (k.CaseWord ∷ []) sum_goes sum_goes
 unfolding q.cases
@@ -291,4 +291,3 @@ decl_exact = choose_exact (k.TypeWord ∷ []) (k.Bar ∷ []) (k.Bar ∷ []) (enu
 pub file_exact : (levels : ℕ) → Exact (g.File levels) (q.file levels) false (k.TypeWord ∷ k.VarWord ∷ k.ArrayWord ∷ k.InitWord ∷ []) rest_starts rest_starts
 unfolding g.File q.file q.next_decl q.next_rest
 file_exact levels = bind_exact (each_exact (decl_starts) decl_goes decl_goes (decl_exact) refl refl refl refl refl refl refl refl refl) (λ decls. bind_exact (w k.InitWord refl) (λ _. bind_exact (named_body_exact levels) (λ init. bind_exact (each_exact (rest_starts) rest_starts rest_starts (rest_exact levels) refl refl refl refl refl refl refl refl refl) (λ rests. give_exact _ rest_starts rest_starts) refl refl) refl refl) refl refl) refl refl
-

@@ -28,17 +28,17 @@ module _ {A : Type 0} {R : Phrase (Option A)} {p : Parser (Option A)} {e : Bool}
   shorter ts a mid h = shorter_than ts a mid (subst (λ (r : Read (Option A)). Local R p s ts r) h (one.local ts))
 
   others_sound : (ts mid : List Leaf) (a : A) (l : List A) (rest : List Leaf) → R ts (Some a) mid → (r : Read (List A)) → ((l : List A) (left : List Leaf) → r ≡ Ok (l, left) → g.Until R mid l left) →
-    after r (λ others. q.give (a ∷ others)) ≡ Ok (l, rest) → g.Until R ts l rest
+      after r (λ others. q.give (a ∷ others)) ≡ Ok (l, rest) → g.Until R ts l rest
   others_sound ts mid a l rest h (Ok x) i k =
-    subst (λ (v : List A). g.Until R ts v rest) (given_tree (a ∷ x.0) l x.1 rest k)
+      subst (λ (v : List A). g.Until R ts v rest) (given_tree (a ∷ x.0) l x.1 rest k)
       (subst (λ (v : List Leaf). g.Until R ts (a ∷ x.0) v) (given_rest (a ∷ x.0) l x.1 rest k) (mid, h, i x.0 x.1 refl))
   others_sound ts mid a l rest h (Err x) i k = not_given x (l, rest) k
 
   item_sound : (ts : List Leaf) (l : List A) (rest : List Leaf) (count : ℕ) → ((us : List Leaf) (l : List A) (left : List Leaf) → until_in p count us ≡ Ok (l, left) → g.Until R us l left) →
-    (r : Read (Option A)) → p ts ≡ r → after r (go_on (until_in p count)) ≡ Ok (l, rest) → g.Until R ts l rest
+      (r : Read (Option A)) → p ts ≡ r → after r (go_on (until_in p count)) ≡ Ok (l, rest) → g.Until R ts l rest
   item_sound ts l rest count i (Err x) h k = not_given x (l, rest) k
   item_sound ts l rest count i (Ok (None, mid)) h k =
-    subst (λ (v : List A). g.Until R ts v rest) (given_tree [] l mid rest k)
+      subst (λ (v : List A). g.Until R ts v rest) (given_tree [] l mid rest k)
       (one.sound ts None rest (h ∙ ap (λ us. Ok (None, us)) (given_rest [] l mid rest k)))
   item_sound ts l rest count i (Ok (Some a, mid)) h k = others_sound ts mid a l rest (one.sound ts (Some a) mid h) (until_in p count mid) (λ m left j. i mid m left j) k
 
@@ -65,13 +65,13 @@ module _ {A : Type 0} {R : Phrase (Option A)} {p : Parser (Option A)} {e : Bool}
   until_takes ts l rest zero c w h quiet n = absurd (omega arith)
   until_takes ts [] rest (suc count) c w h quiet n = ap (λ r. after r (go_on (until_in p count))) (one.takes ts None rest h quiet)
   until_takes ts (a ∷ l) rest (suc count) c w h quiet n =
-    let item : p ts ≡ Ok (Some a, h.0) = item_takes ts a h.0 h.1 (quiet_item h.0 rest c w quiet (until_starts h.0 l rest h.2)) in
-    ap (λ r. after r (go_on (until_in p count))) item
-    ∙ ap (λ r. after r (λ others. q.give (a ∷ others))) (until_takes h.0 l rest count c w h.2 quiet (omega (arith, shorter ts a h.0 item)))
+      let item : p ts ≡ Ok (Some a, h.0) = item_takes ts a h.0 h.1 (quiet_item h.0 rest c w quiet (until_starts h.0 l rest h.2)) in
+      ap (λ r. after r (go_on (until_in p count))) item
+      ∙ ap (λ r. after r (λ others. q.give (a ∷ others))) (until_takes h.0 l rest count c w h.2 quiet (omega (arith, shorter ts a h.0 item)))
 
   -- more turns than tokens are enough
   enough_item : (n m : ℕ) (ts : List Leaf) → ((a : A) (mid : List Leaf) → p ts ≡ Ok (Some a, mid) → until_in p n mid ≡ until_in p m mid) → (r : Read (Option A)) → p ts ≡ r →
-    after r (go_on (until_in p n)) ≡ after r (go_on (until_in p m))
+      after r (go_on (until_in p n)) ≡ after r (go_on (until_in p m))
   enough_item n m ts i (Err x) h = refl
   enough_item n m ts i (Ok (None, mid)) h = refl
   enough_item n m ts i (Ok (Some a, mid)) h = ap (λ r. after r (λ others. q.give (a ∷ others))) (i a mid h)
@@ -96,21 +96,21 @@ module _ {A : Type 0} {R : Phrase (Option A)} {p : Parser (Option A)} {e : Bool}
   unfolding After
   rolled ts None l mid rest h k = subst (λ (v : List A). g.Until R ts v rest) (sym k.0) (subst (λ (v : List Leaf). R ts None v) k.1 h)
   rolled ts (Some a) l mid rest h k =
-    subst (λ (v : List A). g.Until R ts v rest) (sym k.3.0) (mid, h, subst (λ (v : List Leaf). g.Until R mid k.0 v) k.3.1 k.2)
+      subst (λ (v : List A). g.Until R ts v rest) (sym k.3.0) (mid, h, subst (λ (v : List Leaf). g.Until R mid k.0 v) k.3.1 k.2)
 
   rolled_local : (ts : List Leaf) (r : Read (List A)) → Local (g.◌>>=◌ R (After R)) (q.◌>>=◌ p (go_on (until p))) s ts r → Local (g.Until R) (until p) s ts r
   rolled_local ts (Ok x) l = (l.0, l.1, λ more k. unrolled (l.0 ++ more) ∙ l.2 more k)
   rolled_local ts (Err x) l =
-    (l.0, l.1, l.2, l.3, (l.4.0, l.4.1, λ rest quiet. let h = l.4.2 rest quiet in rolled (l.0 ++ (l.4.0 ++ rest)) h.0 l.4.1 h.1 rest h.2 h.3), λ more k. unrolled (l.0 ++ more) ∙ l.5 more k)
+      (l.0, l.1, l.2, l.3, (l.4.0, l.4.1, λ rest quiet. let h = l.4.2 rest quiet in rolled (l.0 ++ (l.4.0 ++ rest)) h.0 l.4.1 h.1 rest h.2 h.3), λ more k. unrolled (l.0 ++ more) ∙ l.5 more k)
 
   until_lives : (e2 : Bool) → LivesAt e2 f s R None → LivesAt e2 f s (g.Until R) []
   until_lives true live = live
   until_lives false live = live
 
   others_local : (a : A) (mid : List Leaf) → within s s ≡ true → ((l : List A) × LivesAt e f s (g.Until R) l) → Local (g.Until R) (until p) s mid (until p mid) →
-    Local (g.◌>>=◌ (g.Until R) (λ others. g.Is (a ∷ others))) (q.◌>>=◌ (until p) (λ others. q.give (a ∷ others))) s mid (after (until p mid) (λ others. q.give (a ∷ others)))
+      Local (g.◌>>=◌ (g.Until R) (λ others. g.Is (a ∷ others))) (q.◌>>=◌ (until p) (λ others. q.give (a ∷ others))) s mid (after (until p mid) (λ others. q.give (a ∷ others)))
   others_local a mid w live one_more =
-    bind_local (g.Until R) (λ others. g.Is (a ∷ others)) (until p) (λ others. q.give (a ∷ others)) (λ l. true) [] s s mid (λ l. w) (λ us l left h. until_sound (suc (length us)) us l left h)
+      bind_local (g.Until R) (λ others. g.Is (a ∷ others)) (until p) (λ others. q.give (a ∷ others)) (λ l. true) [] s s mid (λ l. w) (λ us l left h. until_sound (suc (length us)) us l left h)
       (λ l us b left h. inr (refl, given_rest (a ∷ l) b us left h)) (λ l. (a ∷ l, λ rest quiet. (refl, refl))) (until p mid) refl one_more (λ l left h. ([], refl, λ more k. refl))
 
   none_lives : (e2 : Bool) (a : A) → LivesAt e2 f s R None → (l : List A) × LivesAt e2 f s (After R (Some a)) l
@@ -128,10 +128,10 @@ module _ {A : Type 0} {R : Phrase (Option A)} {p : Parser (Option A)} {e : Bool}
   behind_closes (Some a) w c = c
 
   some_starts : (a : A) (us : List Leaf) (l : List A) (left : List Leaf) (r : Read (List A)) → until p us ≡ r → after r (λ others. q.give (a ∷ others)) ≡ Ok (l, left) →
-    (heads f us ≡ true) ⊎ ((e ≡ true) × (us ≡ left))
+      (heads f us ≡ true) ⊎ ((e ≡ true) × (us ≡ left))
   some_starts a us l left (Err x) h k = not_given x (l, left) k
   some_starts a us l left (Ok x) h k =
-    subst (λ (v : List Leaf). (heads f us ≡ true) ⊎ ((e ≡ true) × (us ≡ v))) (given_rest (a ∷ x.0) l x.1 left k)
+      subst (λ (v : List Leaf). (heads f us ≡ true) ⊎ ((e ≡ true) × (us ≡ v))) (given_rest (a ∷ x.0) l x.1 left k)
       (until_starts us x.0 x.1 (until_sound (suc (length us)) us x.0 x.1 h))
 
   behind_starts : (o : Option A) (us : List Leaf) (l : List A) (left : List Leaf) → go_on (until p) o us ≡ Ok (l, left) → (heads f us ≡ true) ⊎ ((behind_empty o ≡ true) × (us ≡ left))
@@ -145,7 +145,7 @@ module _ {A : Type 0} {R : Phrase (Option A)} {p : Parser (Option A)} {e : Bool}
   behind_lives live (Some a) = none_lives e a live
 
   behind_local : (o : Option A) (mid : List Leaf) → within s s ≡ true → LivesAt e f s R None → ((a : A) → o ≡ Some a → Local (g.Until R) (until p) s mid (until p mid)) →
-    Local (After R o) (go_on (until p) o) s mid (go_on (until p) o mid)
+      Local (After R o) (go_on (until p) o) s mid (go_on (until p) o mid)
   unfolding After
   behind_local None mid w live i = ([], refl, λ more k. refl)
   behind_local (Some a) mid w live i = others_local a mid w ([], until_lives e live) (i a refl)
@@ -153,53 +153,72 @@ module _ {A : Type 0} {R : Phrase (Option A)} {p : Parser (Option A)} {e : Bool}
   until_local : (count : ℕ) (ts : List Leaf) → within s s ≡ true → closes e f s s ≡ true → LivesAt e f s R None → length ts < count → Local (g.Until R) (until p) s ts (until p ts)
   until_local zero ts w c live h = absurd (omega arith)
   until_local (suc count) ts w c live h =
-    subst (λ (r : Read (List A)). Local (g.Until R) (until p) s ts r) (sym (unrolled ts)) (rolled_local ts (after (p ts) (go_on (until p)))
+      subst (λ (r : Read (List A)). Local (g.Until R) (until p) s ts r) (sym (unrolled ts)) (rolled_local ts (after (p ts) (go_on (until p)))
       (bind_local R (After R) p (go_on (until p)) behind_empty f s s ts (λ o. behind_closes o w c) one.sound behind_starts (behind_lives live) (p ts) refl (one.local ts)
-        (λ o mid item. behind_local o mid w live (λ a some. until_local count mid w c live (omega (arith, shorter ts a mid (item ∙ ap (λ v. Ok (v, mid)) some)))))))
+      (λ o mid item. behind_local o mid w live (λ a some. until_local count mid w c live (omega (arith, shorter ts a mid (item ∙ ap (λ v. Ok (v, mid)) some)))))))
 
   pub until_exact : within s s ≡ true → closes e f s s ≡ true → LivesAt e f s R None → apart f gi ≡ true → within gi gs ≡ true → Exact (g.Until R) (until p) e f gs s
   until_exact w c live d v = record {
-      sound = λ ts l rest h. until_sound (suc (length ts)) ts l rest h;
-      takes = λ ts l rest h quiet. until_takes ts l rest (suc (length ts)) d v h quiet (omega arith);
-      starts = until_starts;
-      lives = ([], until_lives e live);
-      local = λ ts. until_local (suc (length ts)) ts w c live (omega arith);
-    }
+    sound = λ ts l rest h. until_sound (suc (length ts)) ts l rest h;
+    takes = λ ts l rest h quiet. until_takes ts l rest (suc (length ts)) d v h quiet (omega arith);
+    starts = until_starts;
+    lives = ([], until_lives e live);
+    local = λ ts. until_local (suc (length ts)) ts w c live (omega arith);
+  }
 
   -- fewer levels in the items
   module _ (t : Parser (Option A)) (a : Agrees R s t p) (live : LivesAt e f s R None) (c : closes e f s s ≡ true) (v : within s s ≡ true) where
     deeper_item : (ts : List Leaf) (count : ℕ) → Deeper R s (t ts) ts → Deeper (g.Until R) s (after (t ts) (go_on (until_in t count))) ts
     deeper_item ts count d =
         let front = d.0 ++ d.1 ∷ [] in
-        let b = begins_first R (After R) (behind_empty d.5.1) f s s front (behind_closes d.5.1 v c) d.5 (behind_lives live d.5.1) in
-        (d.0, d.1, d.2, d.3, ap (λ r. after r (go_on (until_in t count))) d.4,
-          (b.0, b.1, λ rest quiet. let h = b.2 rest quiet in rolled (front ++ (b.0 ++ rest)) h.0 b.1 h.1 rest h.2 h.3))
+        let b = begins_first R (After R) (behind_empty d.5.1) f s s front (behind_closes d.5.1 v c) d.5 (behind_lives live d.5.1) in (
+          d.0,
+          d.1,
+          d.2,
+          d.3,
+          ap (λ r. after r (go_on (until_in t count))) d.4,
+          (b.0, b.1, λ rest quiet. let h = b.2 rest quiet in rolled (front ++ (b.0 ++ rest)) h.0 b.1 h.1 rest h.2 h.3),
+        )
 
     deeper_others : (ts mid : List Leaf) (x : A) (count : ℕ) (used : List Leaf) → t ts ≡ Ok (Some x, mid) → ts ≡ used ++ mid → ((more : List Leaf) → Alike s mid more → p (used ++ more) ≡ Ok (Some x, more)) →
         Deeper (g.Until R) s (until_in t count mid) mid → Deeper (g.Until R) s (after (t ts) (go_on (until_in t count))) ts
-    deeper_others ts mid x count used h split loc d =
-        (used ++ d.0, d.1, d.2, split ∙ ap (λ us. used ++ us) d.3 ∙ sym (append_assoc used d.0 (d.1 ∷ d.2)),
-          ap (λ r. after r (go_on (until_in t count))) h ∙ ap (λ r. after r (λ others. q.give (x ∷ others))) d.4,
-          (d.5.0, x ∷ d.5.1, λ rest quiet.
+    deeper_others ts mid x count used h split loc d = (
+      used ++ d.0,
+      d.1,
+      d.2,
+      split ∙ ap (λ us. used ++ us) d.3 ∙ sym (append_assoc used d.0 (d.1 ∷ d.2)),
+      ap (λ r. after r (go_on (until_in t count))) h ∙ ap (λ r. after r (λ others. q.give (x ∷ others))) d.4,
+      (
+        d.5.0,
+        x ∷ d.5.1,
+        λ rest quiet.
             let us : List Leaf = (d.0 ++ d.1 ∷ []) ++ (d.5.0 ++ rest) in
             let near : next mid ≡ next us = ap next d.3 ∙ next_append d.0 (d.1 ∷ d.2) (d.1 ∷ (d.5.0 ++ rest)) refl ∙ sym (ap next (append_assoc d.0 (d.1 ∷ []) (d.5.0 ++ rest))) in
             let whole : ((used ++ d.0) ++ d.1 ∷ []) ++ (d.5.0 ++ rest) ≡ used ++ us = ap (λ vs. vs ++ (d.5.0 ++ rest)) (append_assoc used d.0 (d.1 ∷ [])) ∙ append_assoc used (d.0 ++ d.1 ∷ []) (d.5.0 ++ rest) in
-            (us, subst (λ (vs : List Leaf). R vs (Some x) us) (sym whole) (one.sound (used ++ us) (Some x) us (loc us (inl near))), d.5.2 rest quiet)))
+            (us, subst (λ (vs : List Leaf). R vs (Some x) us) (sym whole) (one.sound (used ++ us) (Some x) us (loc us (inl near))), d.5.2 rest quiet),
+      ),
+    )
 
     agrees_item : (ts : List Leaf) (count : ℕ) → ((x : A) (mid : List Leaf) → p ts ≡ Ok (Some x, mid) → ((until_in t count mid ≡ until_in p count mid) × NotDeep (until_in t count mid)) ⊎ Deeper (g.Until R) s (until_in t count mid) mid) →
         t ts ≡ p ts → NotDeep (t ts) → (r : Read (Option A)) → p ts ≡ r → Local R p s ts r → ((after (t ts) (go_on (until_in t count)) ≡ after (p ts) (go_on (until_in p count))) × NotDeep (after (t ts) (go_on (until_in t count)))) ⊎ Deeper (g.Until R) s (after (t ts) (go_on (until_in t count))) ts
     agrees_item ts count i same nd (Err x) h l =
-        inl (ap (λ r. after r (go_on (until_in t count))) (same ∙ h) ∙ sym (ap (λ r. after r (go_on (until_in p count))) h),
-          subst (λ (r : Read (List A)). NotDeep r) (sym (ap (λ r. after r (go_on (until_in t count))) (same ∙ h))) (subst (λ (r : Read (Option A)). NotDeep r) (same ∙ h) nd))
+        inl (
+          ap (λ r. after r (go_on (until_in t count))) (same ∙ h) ∙ sym (ap (λ r. after r (go_on (until_in p count))) h),
+          subst (λ (r : Read (List A)). NotDeep r) (sym (ap (λ r. after r (go_on (until_in t count))) (same ∙ h))) (subst (λ (r : Read (Option A)). NotDeep r) (same ∙ h) nd),
+        )
     agrees_item ts count i same nd (Ok (None, mid)) h l =
-        inl (ap (λ r. after r (go_on (until_in t count))) (same ∙ h) ∙ sym (ap (λ r. after r (go_on (until_in p count))) h),
-          subst (λ (r : Read (List A)). NotDeep r) (sym (ap (λ r. after r (go_on (until_in t count))) (same ∙ h))) tt)
+        inl (
+          ap (λ r. after r (go_on (until_in t count))) (same ∙ h) ∙ sym (ap (λ r. after r (go_on (until_in p count))) h),
+          subst (λ (r : Read (List A)). NotDeep r) (sym (ap (λ r. after r (go_on (until_in t count))) (same ∙ h))) tt,
+        )
     agrees_item ts count i same nd (Ok (Some x, mid)) h l = go (i x mid h)
       where
         go : ((until_in t count mid ≡ until_in p count mid) × NotDeep (until_in t count mid)) ⊎ Deeper (g.Until R) s (until_in t count mid) mid →
-          ((after (t ts) (go_on (until_in t count)) ≡ after (p ts) (go_on (until_in p count))) × NotDeep (after (t ts) (go_on (until_in t count)))) ⊎ Deeper (g.Until R) s (after (t ts) (go_on (until_in t count))) ts
-        go (inl k) = inl (ap (λ r. after r (go_on (until_in t count))) (same ∙ h) ∙ ap (λ r. after r (λ others. q.give (x ∷ others))) k.0 ∙ sym (ap (λ r. after r (go_on (until_in p count))) h),
-          subst (λ (r : Read (List A)). NotDeep r) (sym (ap (λ r. after r (go_on (until_in t count))) (same ∙ h))) (plain_after (λ others. q.give (x ∷ others)) (until_in t count mid) k.1 (λ others us. tt)))
+            ((after (t ts) (go_on (until_in t count)) ≡ after (p ts) (go_on (until_in p count))) × NotDeep (after (t ts) (go_on (until_in t count)))) ⊎ Deeper (g.Until R) s (after (t ts) (go_on (until_in t count))) ts
+        go (inl k) = inl (
+          ap (λ r. after r (go_on (until_in t count))) (same ∙ h) ∙ ap (λ r. after r (λ others. q.give (x ∷ others))) k.0 ∙ sym (ap (λ r. after r (go_on (until_in p count))) h),
+          subst (λ (r : Read (List A)). NotDeep r) (sym (ap (λ r. after r (go_on (until_in t count))) (same ∙ h))) (plain_after (λ others. q.give (x ∷ others)) (until_in t count mid) k.1 (λ others us. tt)),
+        )
         go (inr d) = inr (deeper_others ts mid x count l.0 (same ∙ h) l.1 l.2 d)
 
     agrees_turn : (ts : List Leaf) (count : ℕ) → ((x : A) (mid : List Leaf) → p ts ≡ Ok (Some x, mid) → ((until_in t count mid ≡ until_in p count mid) × NotDeep (until_in t count mid)) ⊎ Deeper (g.Until R) s (until_in t count mid) mid) →

@@ -63,10 +63,11 @@ at_no_level front rest stop levels h = go (cases_order levels 64)
   where
     less : levels < 64 → (rest : List Leaf) → ((more : List Leaf) → next rest ≡ next more → q.file 64 (front ++ more) ≡ Err (P1, length more)) → GoesOn levels front rest → ⊥
     less l [] stop h =
-      not_given (P1, 0) (h.0, []) (sym (stop [] refl) ∙ ap (q.file 64) (append-nil front) ∙ less_reads levels 64 l front h.0 [] (reads levels front h.0 h.1))
+        not_given (P1, 0) (h.0, []) (sym (stop [] refl) ∙ ap (q.file 64) (append-nil front) ∙ less_reads levels 64 l front h.0 [] (reads levels front h.0 h.1))
     less l (x ∷ rest) stop h =
-      not_given (P1, suc (length h.0)) (h.1, []) (sym (stop (x ∷ h.0) refl) ∙ ap (q.file 64) (sym (append_assoc front (x ∷ []) h.0))
+        not_given (P1, suc (length h.0)) (h.1, []) (sym (stop (x ∷ h.0) refl) ∙ ap (q.file 64) (sym (append_assoc front (x ∷ []) h.0))
         ∙ less_reads levels 64 l ((front ++ x ∷ []) ++ h.0) h.1 [] (reads levels ((front ++ x ∷ []) ++ h.0) h.1 h.2))
+
     go : (levels ≡ 64) ⊎ ((levels < 64) ⊎ (64 < levels)) → ⊥
     go (inl e) = no_more 64 front rest P1 stop (subst (λ (l : ℕ). GoesOn l front rest) e h)
     go (inr (inl l)) = less l rest stop h
@@ -130,8 +131,10 @@ none_behind used tree x read levels b = go (cases_order levels 64)
   where
     ts : List Leaf
     ts = (used ++ x ∷ []) ++ b.0
+
     here : q.file 64 ts ≡ Ok (tree, x ∷ b.0)
     here = ap (q.file 64) (append_assoc used (x ∷ []) b.0) ∙ read b.0
+
     go : (levels ≡ 64) ⊎ ((levels < 64) ⊎ (64 < levels)) → ⊥
     go (inl e) = left_over tree b.1 x b.0 (sym here ∙ reads 64 ts b.1 (subst (λ (l : ℕ). Sentence l ts b.1) e b.2))
     go (inr (inl l)) = left_over tree b.1 x b.0 (sym here ∙ less_reads levels 64 l ts b.1 [] (reads levels ts b.1 b.2))
@@ -174,12 +177,14 @@ before ts at other kind another f g l = f.stops (go (drop at ts) (sym (take-appe
     go (x ∷ rest) e =
         let n : length (take at ts) ≡ at = length-take-le at ts f.within in
         let ahead : take (at + 1) ts ≡ take at ts ++ x ∷ [] =
-          ap (take (at + 1)) e ∙ ap (take (at + 1)) (sym (append_assoc (take at ts) (x ∷ []) rest)) ∙ take_at (take at ts ++ x ∷ []) rest (at + 1) (omega (arith, length-append (take at ts) (x ∷ []))) in
+        ap (take (at + 1)) e ∙ ap (take (at + 1)) (sym (append_assoc (take at ts) (x ∷ []) rest)) ∙ take_at (take at ts ++ x ∷ []) rest (at + 1) (omega (arith, length-append (take at ts) (x ∷ []))) in
         let split : take other ts ≡ (take at ts ++ x ∷ []) ++ drop (at + 1) (take other ts) =
-          sym (take-append-drop (at + 1) (take other ts)) ∙ ap (λ us. us ++ drop (at + 1) (take other ts)) (take-take (at + 1) other ts (omega arith) ∙ ahead) in
-        (drop (at + 1) (take other ts) ++ g.begins.0, g.begins.1,
+        sym (take-append-drop (at + 1) (take other ts)) ∙ ap (λ us. us ++ drop (at + 1) (take other ts)) (take-take (at + 1) other ts (omega arith) ∙ ahead) in (
+          drop (at + 1) (take other ts) ++ g.begins.0,
+          g.begins.1,
           subst (λ (us : List Leaf). Sentence 64 us g.begins.1)
-            (ap (λ us. us ++ g.begins.0) split ∙ append_assoc (take at ts ++ x ∷ []) (drop (at + 1) (take other ts)) g.begins.0) g.begins.2)
+              (ap (λ us. us ++ g.begins.0) split ∙ append_assoc (take at ts ++ x ∷ []) (drop (at + 1) (take other ts)) g.begins.0) g.begins.2,
+        )
 
 kind_once : (front rest : List Leaf) (kind another : ParseKind) → IsOfKind kind front rest → IsOfKind another front rest → kind ≡ another
 kind_once front rest P1 P1 f g = refl

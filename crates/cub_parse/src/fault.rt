@@ -33,6 +33,7 @@ pub enum Stop {
 
 impl From<AllocError> for Stop {
     ghost use Rattle.cub_parse.specs.declared.fault.Stop.TheVariants.{Memory};
+
     ghost from_gives = { λ _ e. e ≡ Memory };
 
     fn from(_error: AllocError) -> Stop {
@@ -42,6 +43,7 @@ impl From<AllocError> for Stop {
 
 impl<T: Drop> From<AllocFailed<T>> for Stop {
     ghost use Rattle.cub_parse.specs.declared.fault.Stop.TheVariants.{Memory};
+
     ghost from_gives = { λ _ e. e ≡ Memory };
 
     fn from(_error: AllocFailed<T>) -> Stop {

@@ -51,7 +51,12 @@ fn names_if_any(alloc: Global, leaves: &[Leaf]) -> Result<(Leaves, &[Leaf]), Sto
 }
 
 #[tactic(auto, unfolding(crate::specs::Parsing::body))]
-fn body(alloc: Global, levels: u8, names: Leaves, leaves: &[Leaf]) -> Result<(BodyNode, &[Leaf]), Stop>
+fn body(
+    alloc: Global,
+    levels: u8,
+    names: Leaves,
+    leaves: &[Leaf],
+) -> Result<(BodyNode, &[Leaf]), Stop>
     ensures { Gives (λ x. (x.0, x.1.now)) result (body levels names leaves.now) }
 {
     let (_, rest) = word(TokenKind::BraceOpen, leaves)?;
@@ -105,7 +110,11 @@ fn guard(alloc: Global, levels: u8, leaves: &[Leaf]) -> Result<(BodyNode, &[Leaf
 }
 
 #[tactic(auto, unfolding(crate::specs::Parsing::guard_if_any))]
-fn guard_if_any(alloc: Global, levels: u8, leaves: &[Leaf]) -> Result<(Option<BodyNode>, &[Leaf]), Stop>
+fn guard_if_any(
+    alloc: Global,
+    levels: u8,
+    leaves: &[Leaf],
+) -> Result<(Option<BodyNode>, &[Leaf]), Stop>
     ensures { Gives (λ x. (x.0, x.1.now)) result (guard_if_any levels leaves.now) }
 {
     if !at(&[TokenKind::RequiresWord], leaves) {
@@ -116,7 +125,11 @@ fn guard_if_any(alloc: Global, levels: u8, leaves: &[Leaf]) -> Result<(Option<Bo
 }
 
 #[tactic(auto, unfolding(crate::specs::Parsing::updates_if_any))]
-fn updates_if_any(alloc: Global, levels: u8, leaves: &[Leaf]) -> Result<(UpdateNodes, &[Leaf]), Stop>
+fn updates_if_any(
+    alloc: Global,
+    levels: u8,
+    leaves: &[Leaf],
+) -> Result<(UpdateNodes, &[Leaf]), Stop>
     ensures { Gives (λ x. (x.0, x.1.now)) result (updates_if_any levels leaves.now) }
 {
     if !at(&[TokenKind::Name], leaves) {
@@ -159,7 +172,11 @@ fn rest_of(alloc: Global, levels: u8, leaves: &[Leaf]) -> Result<(RestNode, &[Le
 }
 
 #[tactic(auto, unfolding(crate::specs::Parsing::next_rest))]
-fn next_rest(alloc: Global, levels: u8, leaves: &[Leaf]) -> Result<(Option<RestNode>, &[Leaf]), Stop>
+fn next_rest(
+    alloc: Global,
+    levels: u8,
+    leaves: &[Leaf],
+) -> Result<(Option<RestNode>, &[Leaf]), Stop>
     ensures { Gives (λ x. (x.0, x.1.now)) result (next_rest levels leaves.now) }
 {
     if !at(

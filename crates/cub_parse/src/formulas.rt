@@ -130,8 +130,8 @@ fn forall(alloc: Global, levels: u8, leaves: &[Leaf]) -> Result<(FormNode, &[Lea
     let (keyword, rest) = word(TokenKind::ForallOtherWord, leaves)?;
     let (name, rest) = word(TokenKind::Name, rest)?;
     let (_, rest) = word(TokenKind::Dot, rest)?;
-    let (inner, rest) = formula(alloc, levels, rest)?;
-    let body = Boxed::new(alloc, inner)?;
+    let (reach, rest) = formula(alloc, levels, rest)?;
+    let body = Boxed::new(alloc, reach)?;
     let node = FormNode::Forall {
         word: keyword,
         name,

@@ -69,17 +69,14 @@ pub fn parse(alloc: Global, tokens: &[Token]) -> Result<Syntax, ParseFault>
 /// Tokens have one tree at most.
 pub fn one_tree()
     ensures { OneTree }
-{
-}
+{}
 
 /// Tokens have one fault at most, of one kind.
 pub fn one_fault()
     ensures { OneFault }
-{
-}
+{}
 
 /// A sentence has no fault.
 pub fn no_fault()
     ensures { NoFault }
-{
-}
+{}

@@ -76,7 +76,10 @@ fn part(leaves: &[Leaf]) -> Result<(PartNode, &[Leaf]), Stop>
 fn step(leaves: &[Leaf]) -> Result<(SumStep, &[Leaf]), Stop>
     ensures { Gives (λ x. (x.0, x.1.now)) result (step leaves.now) }
 {
-    let (sign, rest) = one_of(&[TokenKind::Plus, TokenKind::Minus, TokenKind::Star], leaves)?;
+    let (sign, rest) = one_of(
+        &[TokenKind::Plus, TokenKind::Minus, TokenKind::Star],
+        leaves,
+    )?;
     let (part, rest) = part(rest)?;
     Ok((SumStep { sign, part }, rest))
 }
@@ -85,7 +88,10 @@ fn step(leaves: &[Leaf]) -> Result<(SumStep, &[Leaf]), Stop>
 fn next_step(leaves: &[Leaf]) -> Result<(Option<SumStep>, &[Leaf]), Stop>
     ensures { Gives (λ x. (x.0, x.1.now)) result (next_step leaves.now) }
 {
-    if !at(&[TokenKind::Plus, TokenKind::Minus, TokenKind::Star], leaves) {
+    if !at(
+        &[TokenKind::Plus, TokenKind::Minus, TokenKind::Star],
+        leaves,
+    ) {
         return Ok((None, leaves));
     }
     let (step, rest) = step(leaves)?;

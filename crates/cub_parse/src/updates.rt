@@ -43,7 +43,11 @@ fn case(alloc: Global, levels: u8, leaves: &[Leaf]) -> Result<(CaseNode, &[Leaf]
 }
 
 #[tactic(auto, unfolding(crate::specs::Parsing::next_case))]
-fn next_case(alloc: Global, levels: u8, leaves: &[Leaf]) -> Result<(Option<CaseNode>, &[Leaf]), Stop>
+fn next_case(
+    alloc: Global,
+    levels: u8,
+    leaves: &[Leaf],
+) -> Result<(Option<CaseNode>, &[Leaf]), Stop>
     ensures { Gives (λ x. (x.0, x.1.now)) result (next_case levels leaves.now) }
 {
     let (_, rest) = word(TokenKind::Bar, leaves)?;
@@ -71,7 +75,11 @@ fn branches(alloc: Global, levels: u8, leaves: &[Leaf]) -> Result<(CaseNodes, &[
 }
 
 #[tactic(auto, unfolding(crate::specs::Parsing::cases))]
-fn cases(alloc: Global, levels: u8, leaves: &[Leaf]) -> Result<((CaseNodes, Leaf, RightNode), &[Leaf]), Stop>
+fn cases(
+    alloc: Global,
+    levels: u8,
+    leaves: &[Leaf],
+) -> Result<((CaseNodes, Leaf, RightNode), &[Leaf]), Stop>
     ensures { Gives (λ x. (x.0, x.1.now)) result (cases levels leaves.now) }
 {
     let (_, rest) = word(TokenKind::CaseWord, leaves)?;
@@ -83,7 +91,11 @@ fn cases(alloc: Global, levels: u8, leaves: &[Leaf]) -> Result<((CaseNodes, Leaf
 }
 
 #[tactic(auto, unfolding(crate::specs::Parsing::single))]
-fn single(alloc: Global, at: Leaf, leaves: &[Leaf]) -> Result<((CaseNodes, Leaf, RightNode), &[Leaf]), Stop>
+fn single(
+    alloc: Global,
+    at: Leaf,
+    leaves: &[Leaf],
+) -> Result<((CaseNodes, Leaf, RightNode), &[Leaf]), Stop>
     ensures { Gives (λ x. (x.0, x.1.now)) result (single at leaves.now) }
 {
     let (right, rest) = right(alloc, leaves)?;
@@ -91,7 +103,12 @@ fn single(alloc: Global, at: Leaf, leaves: &[Leaf]) -> Result<((CaseNodes, Leaf,
 }
 
 #[tactic(auto, unfolding(crate::specs::Parsing::value))]
-fn value(alloc: Global, levels: u8, sign: Leaf, leaves: &[Leaf]) -> Result<((CaseNodes, Leaf, RightNode), &[Leaf]), Stop>
+fn value(
+    alloc: Global,
+    levels: u8,
+    sign: Leaf,
+    leaves: &[Leaf],
+) -> Result<((CaseNodes, Leaf, RightNode), &[Leaf]), Stop>
     ensures { Gives (λ x. (x.0, x.1.now)) result (value levels sign leaves.now) }
 {
     if at(&[TokenKind::CaseWord], leaves) {
@@ -119,7 +136,11 @@ fn update(alloc: Global, levels: u8, leaves: &[Leaf]) -> Result<(UpdateNode, &[L
 }
 
 #[tactic(auto, unfolding(crate::specs::Parsing::update_behind))]
-fn update_behind(alloc: Global, levels: u8, leaves: &[Leaf]) -> Result<(Option<UpdateNode>, &[Leaf]), Stop>
+fn update_behind(
+    alloc: Global,
+    levels: u8,
+    leaves: &[Leaf],
+) -> Result<(Option<UpdateNode>, &[Leaf]), Stop>
     ensures { Gives (λ x. (x.0, x.1.now)) result (update_behind levels leaves.now) }
 {
     let (_, rest) = word(TokenKind::Semicolon, leaves)?;
@@ -131,7 +152,11 @@ fn update_behind(alloc: Global, levels: u8, leaves: &[Leaf]) -> Result<(Option<U
 }
 
 #[tactic(auto, unfolding(crate::specs::Parsing::next_update))]
-fn next_update(alloc: Global, levels: u8, leaves: &[Leaf]) -> Result<(Option<UpdateNode>, &[Leaf]), Stop>
+fn next_update(
+    alloc: Global,
+    levels: u8,
+    leaves: &[Leaf],
+) -> Result<(Option<UpdateNode>, &[Leaf]), Stop>
     ensures { Gives (λ x. (x.0, x.1.now)) result (next_update levels leaves.now) }
 {
     if !at(&[TokenKind::Semicolon], leaves) {
@@ -140,7 +165,11 @@ fn next_update(alloc: Global, levels: u8, leaves: &[Leaf]) -> Result<(Option<Upd
     update_behind(alloc, levels, leaves)
 }
 
-fn further_updates(alloc: Global, levels: u8, leaves: &[Leaf]) -> Result<(UpdateNodes, &[Leaf]), Stop>
+fn further_updates(
+    alloc: Global,
+    levels: u8,
+    leaves: &[Leaf],
+) -> Result<(UpdateNodes, &[Leaf]), Stop>
     ensures { Gives (λ x. (x.0, x.1.now)) result (until (next_update levels) leaves.now) }
 {
     let mut found = Items::new(alloc);
@@ -156,7 +185,11 @@ fn further_updates(alloc: Global, levels: u8, leaves: &[Leaf]) -> Result<(Update
     Err(Stop::At(ParseKind::P1, rest.len()))
 }
 
-fn with_first(alloc: Global, first: UpdateNode, others: UpdateNodes) -> Result<UpdateNodes, AllocError>
+fn with_first(
+    alloc: Global,
+    first: UpdateNode,
+    others: UpdateNodes,
+) -> Result<UpdateNodes, AllocError>
     ensures { IfOk result (λ all. all ≡ first ∷ others) }
 {
     let mut all = Items::new(alloc);

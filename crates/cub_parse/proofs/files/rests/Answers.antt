@@ -11,17 +11,17 @@ pub returns-in_err-next : goal.returns-in_err-next
 returns-in_err-next c =
     let p = err_from_is_err_and c.from_residual.result c.from_residual.ensures.1 in
     rw (p.1, p.2) (loop_fails (next_rest c.args.levels) c.args.leaves.now c.loop.found (length c.args.leaves.now + 1 - c.loop.counter) (length c.args.leaves.now - c.loop.counter)
-      c.loop.rest.now c.in_err-next.field-0.0 (omega arith) c.in_err-next.ensures c.loop.invariant)
+    c.loop.rest.now c.in_err-next.field-0.0 (omega arith) c.in_err-next.ensures c.loop.invariant)
 
 pub returns-in-None : goal.returns-in-None
 returns-in-None c =
     loop_none (next_rest c.args.levels) c.args.leaves.now c.loop.found (length c.args.leaves.now + 1 - c.loop.counter) (length c.args.leaves.now - c.loop.counter)
-      c.loop.rest.now c.in_ok-next.behind.now (omega arith) (rw c.in-None.is at c.in_ok-next.ensures) c.loop.invariant
+    c.loop.rest.now c.in_ok-next.behind.now (omega arith) (rw c.in-None.is at c.in_ok-next.ensures) c.loop.invariant
 
 pub loop-preserved : goal.loop-preserved
 loop-preserved c =
     let more = loop_item (next_rest c.args.levels) c.args.leaves.now c.loop.found c.in-Some.item (length c.args.leaves.now + 1 - c.loop.counter) (length c.args.leaves.now + 1 - (c.loop.counter + 1))
-      c.loop.rest.now c.in_ok-next.behind.now (omega arith) (rw c.in-Some.is at c.in_ok-next.ensures) c.loop.invariant in
+    c.loop.rest.now c.in_ok-next.behind.now (omega arith) (rw c.in-Some.is at c.in_ok-next.ensures) c.loop.invariant in
     rw c.in_ok-push-in-Some.ensures.ok more
 
 pub returns : goal.returns

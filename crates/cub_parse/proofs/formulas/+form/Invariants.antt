@@ -40,4 +40,3 @@ invariant-units-loop l = Goes (next_joined k.And (unit l.levels)) l.leaves l.fou
 
 abbrev pub invariant-conjs-loop : goal.invariant-conjs-loop
 invariant-conjs-loop l = Goes (next_joined k.Or (conj_of (unit l.levels))) l.leaves l.found (l.end - l.counter) l.rest
-

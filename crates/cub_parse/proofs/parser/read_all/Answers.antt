@@ -17,7 +17,7 @@ overflow_sub-leaves c = rest_within c.args.leaves.now c.in-Ok.tree c.in-Ok.rest.
 pub returns-in-Ok-clause-fault : goal.returns-in-Ok-clause-fault
 returns-in-Ok-clause-fault c =
     subst (λ (f : ParseFault). IsFaultAmong c.args.leaves.now f) (sym c.fault_at.ensures)
-      (behind c.args.leaves.now c.in-Ok.tree c.in-Ok.rest.now c.in-Ok.ensures (eqb-false _ _ (sym c.is_empty.ensures ∙ c.if-is_empty.false)))
+    (behind c.args.leaves.now c.in-Ok.tree c.in-Ok.rest.now c.in-Ok.ensures (eqb-false _ _ (sym c.is_empty.ensures ∙ c.if-is_empty.false)))
 
 pub overflow_sub-leaves-in-At : goal.overflow_sub-leaves-in-At
 overflow_sub-leaves-in-At c = left_within c.args.leaves.now c.in-At.kind c.in-At.left (rw c.in-At.is at c.in-Err.ensures)
@@ -25,4 +25,4 @@ overflow_sub-leaves-in-At c = left_within c.args.leaves.now c.in-At.kind c.in-At
 pub returns-in-At-clause-fault : goal.returns-in-At-clause-fault
 returns-in-At-clause-fault c =
     subst (λ (f : ParseFault). IsFaultAmong c.args.leaves.now f) (sym c.fault_at-in-At.ensures)
-      (fault_of c.args.leaves.now c.in-At.kind c.in-At.left (rw c.in-At.is at c.in-Err.ensures))
+    (fault_of c.args.leaves.now c.in-At.kind c.in-At.left (rw c.in-At.is at c.in-Err.ensures))
