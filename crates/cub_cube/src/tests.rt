@@ -1,5 +1,7 @@
 //! Normal forms and renamings whose expected values come from an independent program.
 
+ghost use Rattle.std.specs.Prelude.{◌≡◌};
+
 use crate::{Cube, terms_in};
 use cub_base::{Items, Name};
 use cub_proto::{Decl, Decls, ISide, Lit, PSide, Protocol, Sort, SortDecl, SortDecls, Term};
@@ -80,11 +82,15 @@ const W: PSide = PSide::Global(4);
 
 const V: PSide = PSide::Global(5);
 
-fn a(place: u8) -> Term {
+fn a(place: u8) -> Term
+    ensures { result ≡ Term.Cell 0 place }
+{
     Term::Cell(0, place)
 }
 
-fn n(place: u8) -> ISide {
+fn n(place: u8) -> ISide
+    ensures { result ≡ ISide.At (Term.Cell 1 place) }
+{
     ISide::At(Term::Cell(1, place))
 }
 
