@@ -1,0 +1,5 @@
+pub mod Solution
+pub mod Table
+pub mod Links
+pub mod Gathered
+pub mod Tried
