@@ -1,0 +1,4 @@
+pub mod Words
+pub mod Trace
+pub mod Judge
+pub mod Answer
