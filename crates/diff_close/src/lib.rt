@@ -12,3 +12,6 @@ mod scratch;
 
 pub use diff_core::Cycle;
 pub use scratch::DiffScratch;
+
+#[cfg(test)]
+mod tests;
