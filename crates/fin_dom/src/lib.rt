@@ -20,3 +20,6 @@ mod search;
 mod scratch;
 
 pub use scratch::FinScratch;
+
+#[cfg(test)]
+mod tests;
