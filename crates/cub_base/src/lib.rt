@@ -11,6 +11,11 @@ pub type Name = Items<u8>;
 /// Bytes of a text.
 pub type Text = Items<u8>;
 
+// Values of types that hold themselves.
+mod boxed;
+
+pub use boxed::Boxed;
+
 // Up to twelve places of a cube, inline.
 mod places;
 

@@ -5,7 +5,7 @@ use Rattle.std.specs.List.{list_all}
 use Rattle.std.specs.Ordering.{is_lt}
 use Rattle.cub_proto.specs.declared.literal.Lit.{Lit}
 use Rattle.cub_cube.specs.Normal.{subject_cmp, subjects_rise}
-use Rattle.cub_cube.proofs.Bools.{and_left, and_right, and_both}
+use Rattle.cub_base.proofs.Bools.{and_left, and_right, and_both}
 use Rattle.cub_cube.proofs.Form.{below_all, below_less}
 
 abbrev pub neighbours_rise : List Lit → Bool

@@ -17,7 +17,7 @@ use Rattle.cub_proto.specs.Fits.{place_fits}
 use Rattle.cub_proto.specs.Truth.{term_value, constructor_of, constructor_at, process_at, integer_of, integer_at, has_bit, is_true, all_true}
 use Rattle.cub_proto.specs.Effect.{meaning_of}
 use Rattle.cub_cube.specs.Rename.{Agree, is_within, process_side_within, integer_side_within, value_within}
-use Rattle.cub_cube.proofs.Bools.{and_left, and_right, less_is}
+use Rattle.cub_base.proofs.Bools.{and_left, and_right, less_is}
 
 module _ (s : Configuration) (width : ℕ) (places others : List ℕ) (agree : Agree width places others) where
   pub agree_term : (t : Term) → IsTrue (place_fits width t) → term_value s places t ≡ term_value s others t

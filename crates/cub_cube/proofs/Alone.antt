@@ -19,7 +19,7 @@ use Rattle.cub_proto.specs.Truth.{is_true, has_bit, constructor_at, process_at, 
 use Rattle.cub_proto.specs.Legal.{AreDistinctAlive}
 use Rattle.cub_proto.specs.Order.{term_cmp, process_side_cmp, integer_side_cmp}
 use Rattle.cub_cube.specs.Normal.{is_true_alone, full_mask, are_two_places}
-use Rattle.cub_cube.proofs.Bools.{and_left, and_right, same_refl, same_is, less_is}
+use Rattle.cub_base.proofs.Bools.{and_left, and_right, same_refl, same_is, less_is}
 use Rattle.cub_cube.proofs.Orders.{terms_equal, process_sides_equal, integer_sides_equal}
 use Rattle.cub_cube.proofs.States.{processes_within, apart}
 use Rattle.cub_proto.proofs.Opposite.{constructor_below}

@@ -28,7 +28,7 @@ use Rattle.cub_cube.specs.Normal.{ordered, is_true_alone, joined, inserted, plac
 use Rattle.cub_cube.specs.Mentions.{integer_side_terms}
 use Rattle.cub_cube.specs.Meaning.{SameMeaning, AreAtPlaces}
 use Rattle.cub_cube.specs.Replace.{replaced, constant, FiniteSide, Known, Has, finite_side, side_in, sides_equal, added_of, replaced_added, can_replace, can_replace_all}
-use Rattle.cub_cube.proofs.Bools.{and_left, and_right, is_le, le_is}
+use Rattle.cub_base.proofs.Bools.{and_left, and_right, is_le, le_is}
 use Rattle.cub_cube.proofs.Subjects.{OneSubject, masks, equal_terms, unequal_terms, equal_processes, unequal_processes, bounds}
 use Rattle.cub_cube.proofs.Form.{all_inserted}
 use Rattle.cub_cube.proofs.Replaced.{replaces, split_all}

@@ -12,7 +12,7 @@ use Rattle.cub_cube.specs.declared.cube.Cube.{Cube}
 use Rattle.cub_cube.specs.Rename.{along, IsInjection}
 use Rattle.cub_cube.specs.Meaning.{AreAtPlaces, SameMeaningAlong}
 use Rattle.cub_cube.specs.Cover.{Covers, CoversLeast, precedes}
-use Rattle.cub_cube.proofs.Bools.{is_less, same_refl, and_both, or_intro_left, or_intro_right}
+use Rattle.cub_base.proofs.Bools.{is_less, same_refl, and_both, or_intro_left, or_intro_right}
 use Rattle.cub_cube.proofs.Renames.{along-along, length-along}
 use Rattle.cub_cube.proofs.Placing.{identity, identity_injection, along-identity, composed_injection, along_satisfies, along_processes, inverse, inverse_injection, length-inverse, along-along-inverse}
 

@@ -13,7 +13,7 @@ use Rattle.cub_proto.specs.Legal.{AreLegal, after_all}
 use Rattle.cub_proto.specs.Meets.{Satisfies}
 use Rattle.cub_cube.specs.Crashes.{crashes, killed_all, spare, IsCrashed}
 use Rattle.std.proofs.lemmas.Bool.{cases_eq}
-use Rattle.cub_cube.proofs.Bools.{and_left, and_right}
+use Rattle.cub_base.proofs.Bools.{and_left, and_right}
 
 -- ---- truth looks at values alone
 module _ (s after : Configuration) (globals : after.globals ≡ s.globals) (arrays : after.arrays ≡ s.arrays) where

@@ -22,7 +22,7 @@ use Rattle.cub_proto.specs.Truth.{is_true, all_true}
 use Rattle.cub_proto.specs.Legal.{AreDistinctAlive}
 use Rattle.cub_proto.specs.Order.{term_cmp, process_side_cmp, integer_side_cmp, lit_cmp}
 use Rattle.cub_cube.specs.Normal.{ordered, is_true_alone, subject, subject_cmp, joined, inserted, placed, normal_form, subjects_rise, are_two_places, has_ordered_sides, is_plain, is_normal}
-use Rattle.cub_cube.proofs.Bools.{and_left, and_right, and_both, and_swap, and_assoc, and_comm, and_true, same_comm, less_is, is_less}
+use Rattle.cub_base.proofs.Bools.{and_left, and_right, and_both, and_swap, and_assoc, and_comm, and_true, same_comm, less_is, is_less}
 use Rattle.cub_cube.proofs.Orders.{subject_cmp_total, term_cmp_total, process_side_cmp_total}
 use Rattle.cub_cube.proofs.Subjects.{OneSubject, masks, equal_terms, unequal_terms, equal_processes, unequal_processes, bounds, one_subject, joined_true, ordered_true, int_le-int_min}
 use Rattle.cub_cube.proofs.Alone.{alone_true, not_same, is_not_same}

@@ -8,7 +8,7 @@ use Rattle.cub_proto.specs.declared.literal.Lit.TheVariants.{FinIn, FinEq, FinNe
 use Rattle.cub_proto.specs.Signature.{Signature, sort_of, constructors_at}
 use Rattle.cub_proto.specs.Fits.{literal_fits, is_finite, place_fits, integer_side_fits}
 use Rattle.cub_proto.specs.Negation.{negated}
-use Rattle.cub_cube.proofs.Bools.{and_left, and_right, and_both, is_less}
+use Rattle.cub_base.proofs.Bools.{and_left, and_right, and_both, is_less}
 
 complement_fits : (n m : ℕ) → nat_lt (2 ^ n - 1 - m) (2 ^ n) ≡ true
 complement_fits n m = let some = pow_pos n in is_less (2 ^ n - 1 - m) (2 ^ n) (omega (arith, some))

@@ -14,7 +14,7 @@ use Rattle.cub_proto.specs.Truth.{all_true}
 use Rattle.cub_proto.specs.Legal.{AreDistinctAlive}
 use Rattle.cub_proto.specs.Meets.{Satisfies}
 use Rattle.cub_cube.specs.Rename.{along, IsInjection}
-use Rattle.cub_cube.proofs.Bools.{same_is, or_left, or_right}
+use Rattle.cub_base.proofs.Bools.{same_is, or_left, or_right}
 use Rattle.cub_cube.proofs.States.{apart}
 use Rattle.cub_cube.proofs.Renames.{at_along, length-along, along-along}
 

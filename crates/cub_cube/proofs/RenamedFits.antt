@@ -18,7 +18,7 @@ use Rattle.cub_proto.specs.Fits.{literal_fits, is_finite, place_fits, process_si
 use Rattle.cub_cube.specs.Normal.{normal_form}
 use Rattle.cub_cube.specs.Rename.{renamed, renamed_all, renamed_term, renamed_process_side, renamed_integer_side, along, is_within, process_side_within, integer_side_within}
 use Rattle.cub_cube.specs.Meaning.{AreAtPlaces}
-use Rattle.cub_cube.proofs.Bools.{and_left, and_right, and_both, less_is, is_less}
+use Rattle.cub_base.proofs.Bools.{and_left, and_right, and_both, less_is, is_less}
 use Rattle.cub_cube.proofs.Renames.{renamed_all_true}
 use Rattle.cub_cube.proofs.Form.{fold_true}
 

@@ -18,7 +18,7 @@ use Rattle.cub_proto.specs.Fits.{place_fits}
 use Rattle.cub_proto.specs.Truth.{term_value, constructor_of, constructor_at, process_at, integer_of, integer_at, has_bit, is_true, all_true}
 use Rattle.cub_proto.specs.Effect.{meaning_of}
 use Rattle.cub_cube.specs.Rename.{renamed_term, renamed_process_side, renamed_integer_side, renamed, renamed_all, renamed_value, along, is_within, process_side_within, integer_side_within, value_within}
-use Rattle.cub_cube.proofs.Bools.{and_left, and_right, less_is}
+use Rattle.cub_base.proofs.Bools.{and_left, and_right, less_is}
 
 -- what is at a place of the small thing
 pub at_along : (r places : List ℕ) (p : ℕ) → p < length r → slice_index (along r places) p ≡ slice_index places (slice_index r p)

@@ -33,7 +33,7 @@ use Rattle.cub_proto.specs.Legal.{AreDistinctAlive}
 use Rattle.cub_cube.specs.Rename.{Agree}
 use Rattle.cub_cube.specs.Mentions.{terms_of, process_side_terms, integer_side_terms}
 use Rattle.cub_cube.specs.Replace.{replaced, constant, FiniteSide, Known, Has, finite_side, side_in, sides_equal, process_value, replaced_process_side, base_of, added_of, replaced_base, replaced_added, can_replace, can_replace_all, TakesValues}
-use Rattle.cub_cube.proofs.Bools.{and_left, and_right, and_both, is_less, less_is, same_refl, same_is, same_comm}
+use Rattle.cub_base.proofs.Bools.{and_left, and_right, and_both, is_less, less_is, same_refl, same_is, same_comm}
 use Rattle.cub_proto.proofs.StateValues.{declared_is, sort_is}
 use Rattle.cub_proto.proofs.Opposite.{negated_is}
 use Rattle.cub_cube.proofs.States.{processes_within, finite_is}

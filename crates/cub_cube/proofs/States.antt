@@ -7,7 +7,7 @@ use Rattle.cub_proto.specs.Configuration.{Configuration, process_count}
 use Rattle.cub_proto.specs.Fits.{is_finite}
 use Rattle.cub_proto.specs.Legal.{AreDistinctAlive}
 use Rattle.cub_proto.proofs.StateValues.{alive_within}
-use Rattle.cub_cube.proofs.Bools.{less_is}
+use Rattle.cub_base.proofs.Bools.{less_is}
 
 -- a process at a place is there
 pub place_within : (s : Configuration) (places : List ℕ) (p : ℕ) → AreDistinctAlive s places → p < length places → slice_index places p < process_count s

@@ -16,7 +16,7 @@ use Rattle.cub_proto.specs.Configuration.{Configuration}
 use Rattle.cub_proto.specs.Truth.{is_true, has_bit, constructor_at, process_at, integer_at}
 use Rattle.cub_proto.specs.Order.{term_cmp, process_side_cmp, integer_side_cmp}
 use Rattle.cub_cube.specs.Normal.{ordered, subject_cmp, joined}
-use Rattle.cub_cube.proofs.Bools.{and_self, same_comm}
+use Rattle.cub_base.proofs.Bools.{and_self, same_comm}
 use Rattle.cub_cube.proofs.Orders.{then_both, terms_equal, process_sides_equal, integer_sides_equal}
 
 -- both speak of the same thing

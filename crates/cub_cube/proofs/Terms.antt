@@ -13,9 +13,9 @@ use Rattle.cub_proto.specs.declared.literal.Term.{Term}
 use Rattle.cub_proto.specs.declared.literal.Lit.{Lit}
 use Rattle.cub_proto.specs.Order.{term_cmp}
 use Rattle.cub_cube.specs.Mentions.{terms_of, with_term, terms_in, terms_rise, Mentions}
-use Rattle.cub_cube.proofs.Bools.{and_left, and_right, and_both}
+use Rattle.cub_base.proofs.Bools.{and_left, and_right, and_both}
 use Rattle.cub_cube.proofs.Orders.{term_cmp_total, terms_equal}
-use Rattle.cub_cube.proofs.Members.{Has, has_Contains, contains_Has, has_flat_map, flat_map_has}
+use Rattle.cub_base.proofs.Members.{Has, has_Contains, contains_Has, has_flat_map, flat_map_has}
 
 less_from : (o : Ordering) → IsTrue (is_lt o) → o ≡ Less
 less_from Less h = refl

@@ -12,8 +12,8 @@ use crate::fault::{ParseKind, Stop};
 use crate::sums::sum;
 use crate::tokens::{at, one_of, word};
 use crate::tree::{FormNode, FormNodes, Leaf, SumNode};
+use cub_base::{Boxed, Items};
 use cub_lexer::TokenKind;
-use sqlite_items::{Boxed, Items};
 use std::alloc::{AllocError, Global};
 
 #[tactic(auto, unfolding(crate::specs::Parsing::comparison))]

@@ -1,8 +1,7 @@
 //! The tree of a protocol text. Its leaves are tokens with their numbers, and every part that repeats is a list.
 
-use cub_base::Items;
+use cub_base::{Boxed, Items};
 use cub_lexer::Token;
-use sqlite_items::Boxed;
 
 /// A token with its number, counted from 0.
 #[derive(Clone, Copy, Debug, PartialEq, Eq)]
@@ -22,7 +21,7 @@ pub type UpdateNodes = Items<UpdateNode>;
 /// The branches of an update behind `case`.
 pub type CaseNodes = Items<CaseNode>;
 /// Formulas joined by one operator.
-pub type FormNodes = sqlite_items::Items<FormNode>;
+pub type FormNodes = Items<FormNode>;
 /// What follows the first part of a sum.
 pub type SumSteps = Items<SumStep>;
 

@@ -12,7 +12,7 @@ use Rattle.cub_proto.specs.declared.protocol.Protocol.{Protocol}
 use Rattle.cub_proto.specs.Signature.{sort_of, constructors_of, constructors_at}
 use Rattle.cub_proto.specs.StateOf.{signature_of}
 use Rattle.cub_proto.specs.Fits.{sort_decl_fits, constructors_are_false_true, is_bool, sorts_fit}
-use Rattle.cub_proto.proofs.Elements.{and_left, and_right}
+use Rattle.cub_base.proofs.Bools.{and_left, and_right}
 
 -- from 1 to 64
 pub record IsSize (n : ℕ) : Type 0 where

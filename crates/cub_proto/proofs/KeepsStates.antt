@@ -1,9 +1,9 @@
 -- A legal event leads from a state of the protocol to a state of it.
-use Rattle.std.proofs.Common.{◌≡◌, ℕ, suc, ◌+◌, ◌<◌, Bool, true, false, cond, List, [], ◌∷◌, ◌++◌, length, get_or, Option, Some, None, refl, sym, ap, ◌∙◌, subst, arith, add-zero, find}
+use Rattle.std.proofs.Common.{◌≡◌, ℕ, suc, ◌+◌, ◌<◌, Bool, true, false, cond, List, [], ◌∷◌, ◌++◌, length, get_or, Option, Some, None, refl, sym, ap, ◌∙◌, subst, arith, find}
 use Rattle.std.specs.Prelude.{slice_get, slice_set, All, ◌&&◌, nat_le, count_by, option_map, if◌then◌else◌}
 use Rattle.std.specs.List.{AllZip, list_all}
 use Rattle.std.proofs.lemmas.Bool.{ltb-true, eqb-true}
-use Rattle.std.proofs.lemmas.List.Elements.{All-push, All-cons}
+use Rattle.std.proofs.lemmas.List.Elements.{All-push}
 use Rattle.std.proofs.lemmas.List.{length_push, length-set}
 use Rattle.std.proofs.lemmas.Option.{get_or_from_slice_get, slice_get_within}
 use Rattle.cub_base.specs.Name.{is_declarable}
@@ -26,37 +26,13 @@ use Rattle.cub_proto.specs.Signature.{Signature, declared_sort, target_sort}
 use Rattle.cub_proto.specs.StateOf.{IsStateOf, IsOfSort, AreCells, signature_of}
 use Rattle.cub_proto.specs.Truth.{all_true, process_at, process_of}
 use Rattle.cub_proto.specs.Fits.{process_side_fits, value_fits, branch_fits, conjunction_fits, update_width, update_fits, update_fits_sort, transition_fits, formula_fits, picks_process, targets_rise}
-use Rattle.cub_proto.specs.Effect.{map_from, chosen, settled, counting, updated, same_target, update_of, global_after, cell_after, cells_after, fired, picked}
+use Rattle.cub_base.specs.Numbered.{map_from}
+use Rattle.cub_proto.specs.Effect.{chosen, settled, counting, updated, same_target, update_of, global_after, cell_after, cells_after, fired, picked}
 use Rattle.cub_proto.specs.Legal.{IsLegal, MayFire, TakesPick, after, fired_by}
-use Rattle.cub_proto.proofs.Elements.{and_left, and_right, all_from}
+use Rattle.cub_base.proofs.Bools.{and_left, and_right}
+use Rattle.cub_base.proofs.Elements.{all_from}
+use Rattle.cub_base.proofs.Numbered.{length-map_from, zip_map_from, all_map_from}
 use Rattle.cub_proto.proofs.StateValues.{alive_within, sort_is, global_value, fitting_value}
-
--- what holds of two lists place by place holds again after the second is changed place by place
-zip_map_from : {A B : Type 0} (R : A → B → Type 0) (f : ℕ → B → B) (xs : List A) (ys : List B) (k : ℕ)
-    → ((i : ℕ) (x : A) (y : B) → slice_get xs i ≡ Some x → R x y → R x (f (k + i) y)) → AllZip R xs ys → AllZip R xs (map_from f k ys)
-zip_map_from R f [] [] k each zip = zip
-zip_map_from R f [] (y ∷ ys) k each zip = absurd zip
-zip_map_from R f (x ∷ xs) [] k each zip = absurd zip
-zip_map_from R f (x ∷ xs) (y ∷ ys) k each zip = (
-  subst (λ n. R x (f n y)) (add-zero k) (each 0 x y refl zip.0),
-  zip_map_from R f xs ys (k + 1)
-      (λ i u v is here. let same : k + suc i ≡ (k + 1) + i = omega arith in subst (λ n. R u (f n v)) same (each (suc i) u v is here)) zip.1,
-)
-
--- the values of an array's cells, changed place by place
-all_map_from : {B : Type 0} (P : B → Type 0) (f : ℕ → B → B) (ys : List B) (k : ℕ)
-    → ((i : ℕ) (y : B) → i < length ys → P y → P (f (k + i) y)) → All P ys → All P (map_from f k ys)
-all_map_from P f [] k each all = all
-all_map_from P f (y ∷ ys) k each all =
-    All-cons P (f k y) (map_from f (k + 1) ys)
-    (subst (λ n. P (f n y)) (add-zero k) (each 0 y (omega arith) (all 0 y (omega arith))))
-    (all_map_from P f ys (k + 1)
-    (λ i z below here. let same : k + suc i ≡ (k + 1) + i = omega arith in subst (λ n. P (f n z)) same (each (suc i) z (omega arith) here))
-    (λ i d below. all (suc i) d (omega arith)))
-
-length_map_from : {A B : Type 0} (f : ℕ → A → B) (k : ℕ) (xs : List A) → length (map_from f k xs) ≡ length xs
-length_map_from f k [] = refl
-length_map_from f k (x ∷ xs) = ap suc (length_map_from f (k + 1) xs)
 
 -- what holds of each branch's value and of the last one holds of the one that is chosen
 chosen_fits : (Q : Value → Type 0) (s : Configuration) (places : List ℕ) (branches : List Branch) (last : Value)
@@ -201,7 +177,7 @@ module _ (p : Protocol) (s : Configuration) (state : IsStateOf p s) where
         let zero_add : 0 + a ≡ a = omega arith in
         let after_cells = map_from (cell_after s params (update_of t.updates (Target.Array a)) pick a) 0 cells in
         let stay : AreCells (signature_of p) (process_count s) d after_cells = record {
-          one_each = length_map_from (cell_after s params (update_of t.updates (Target.Array a)) pick a) 0 cells ∙ were.one_each;
+          one_each = length-map_from (cell_after s params (update_of t.updates (Target.Array a)) pick a) 0 cells ∙ were.one_each;
           fit = all_map_from (IsOfSort (signature_of p) (process_count s) d.sort) (cell_after s params (update_of t.updates (Target.Array a)) pick a) cells 0
               (λ i v below here. cell_stays a (0 + i) d v is here) were.fit;
         } in

@@ -1,7 +1,9 @@
-pub mod NamesSeen
-pub mod Elements
-pub mod SameParts
-pub mod StateValues
-pub mod KeepsStates
-pub mod Opposite
 pub mod Constructors
+pub mod KeepsStates
+pub mod NamesSeen
+pub mod Opposite
+pub mod Readable
+pub mod SameParts
+pub mod Slots
+pub mod StateValues
+pub mod Targets

@@ -20,7 +20,7 @@ use Rattle.cub_proto.specs.StateOf.{IsStateOf, IsOfSort, signature_of}
 use Rattle.cub_proto.specs.Truth.{constructor_of, term_value, constructor_at, integer_at, is_true}
 use Rattle.cub_proto.specs.Fits.{is_finite, place_fits, literal_fits}
 use Rattle.cub_proto.specs.Negation.{negated}
-use Rattle.cub_proto.proofs.Elements.{and_left, and_right}
+use Rattle.cub_base.proofs.Bools.{and_left, and_right}
 use Rattle.cub_proto.proofs.StateValues.{value_of_sort}
 
 lowest : (half m : ℕ) → m < 2 * half → (2 * half - 1 - m) % 2 ≡ 1 - m % 2

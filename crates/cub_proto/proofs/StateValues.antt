@@ -1,7 +1,6 @@
 -- What a state of a protocol gives: its values are of their sorts.
 use Rattle.std.proofs.Common.{◌≡◌, ◌⊎◌, ℕ, zero, suc, ◌<◌, ◌≤◌, Bool, true, false, List, [], ◌∷◌, length, get_or, Option, Some, None, refl, sym, ap, subst, inl, inr}
 use Rattle.std.specs.Prelude.{slice_get, slice_index, All}
-use Rattle.std.specs.List.{AllZip}
 use Rattle.std.proofs.lemmas.Bool.{ltb-true, eqb-true}
 use Rattle.std.proofs.lemmas.List.{get_or_past}
 use Rattle.std.proofs.lemmas.Option.{slice_get_cases}
@@ -15,14 +14,8 @@ use Rattle.cub_proto.specs.Signature.{declared_sort, sort_of, same_sort, is_sort
 use Rattle.cub_proto.specs.StateOf.{IsStateOf, IsOfSort, AreCells, signature_of}
 use Rattle.cub_proto.specs.Truth.{term_value}
 use Rattle.cub_proto.specs.Fits.{place_fits, term_fits}
-use Rattle.cub_proto.proofs.Elements.{and_left, and_right}
-
--- an item of one list stands to that of the other
-pub zip_at : {A B : Type 0} (R : A → B → Type 0) (xs : List A) (ys : List B) (i : ℕ) (x : A) (d : B) → AllZip R xs ys → slice_get xs i ≡ Some x → R x (get_or ys i d)
-zip_at R [] ys i x d zip is = cc
-zip_at R (a ∷ xs) [] i x d zip is = absurd zip
-zip_at R (a ∷ xs) (b ∷ ys) zero x d zip is = let same : a ≡ x = cc in subst (λ c. R c b) same zip.0
-zip_at R (a ∷ xs) (b ∷ ys) (suc i) x d zip is = zip_at R xs ys i x d zip.1 is
+use Rattle.cub_base.proofs.Bools.{and_left, and_right}
+use Rattle.cub_base.proofs.Elements.{zip_at}
 
 -- the declaration whose sort it is
 pub declared_is : (decls : List Decl) (n : ℕ) (sort : Sort) → declared_sort decls n ≡ Some sort → (d : Decl) × (slice_get decls n ≡ Some d) × (d.sort ≡ sort)

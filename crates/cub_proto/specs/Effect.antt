@@ -1,5 +1,6 @@
 -- What a transition does to a state: every updated slot takes the value of its update in the old state, all at once.
-use Rattle.std.specs.Prelude.{ℕ, ◌+◌, ◌+ℤ◌, Bool, false, ◌==◌, if◌then◌else◌, List, [], ◌∷◌, ◌++◌, Option, Some, None, unwrap_or, option_map, find}
+use Rattle.std.specs.Prelude.{ℕ, ◌+ℤ◌, Bool, false, ◌==◌, if◌then◌else◌, List, [], ◌∷◌, ◌++◌, Option, Some, None, unwrap_or, option_map, find}
+use Rattle.cub_base.specs.Numbered.{map_from}
 use Rattle.cub_proto.specs.declared.literal.Value.{Value}
 use Rattle.cub_proto.specs.declared.transition.Branch.{Branch}
 use Rattle.cub_proto.specs.declared.transition.Target.{Target}
@@ -10,11 +11,6 @@ use Rattle.cub_proto.specs.declared.state.Val.TheVariants.{Con, Proc, Int}
 use Rattle.cub_proto.specs.declared.event.Chosen.{Chosen}
 use Rattle.cub_proto.specs.Configuration.{Configuration, is_alive}
 use Rattle.cub_proto.specs.Truth.{term_value, process_at, integer_at, all_true}
-
--- f of each number, counted from n, and element
-abbrev pub map_from : {A B : Type 0} → (ℕ → A → B) → ℕ → List A → List B
-map_from f n [] = []
-map_from f n (x ∷ xs) = f n x ∷ map_from f (n + 1) xs
 
 -- the value of the first branch whose condition is true, or else the last value
 abbrev pub chosen : Configuration → List ℕ → List Branch → Value → Value

@@ -15,7 +15,7 @@ use Rattle.fin_dom.specs.Table.{number_of, is_numbered, has_entry}
 use Rattle.fin_dom.specs.Links.{AreMasks}
 use Rattle.fin_dom.specs.Gathered.{Meets, IsLeft, HasBoth, IsTermWithin, AreBothMet, AreGathered, is_member_true}
 use Rattle.fin_dom.proofs.Masks.{no_bit, bit_inside, first_bits}
-use Rattle.fin_dom.proofs.Conjunction.{list_all_front, list_all_back, list_all_join, list_all_single, list_all_one, list_all_prefix}
+use Rattle.cub_base.proofs.Conjunctions.{list_all_front, list_all_back, list_all_join, list_all_single, list_all_one, list_all_prefix}
 use Rattle.std.proofs.lemmas.Nat.Bits.{bit_at-zero}
 
 pub number_of_same : (s t : Term) → IsTrue (is_numbered s) → IsTrue (is_numbered t) → number_of s ≡ number_of t → s ≡ t

@@ -1,7 +1,6 @@
-pub mod Masks
-pub mod Conjunction
-pub mod Narrowing
-pub mod Gathering
 pub mod Deciding
+pub mod Gathering
+pub mod Masks
+pub mod Narrowing
 pub mod Searching
 pub mod Solving

@@ -12,7 +12,7 @@ use Rattle.cub_proto.specs.Truth.{has_bit}
 use Rattle.fin_dom.specs.Table.{number_of}
 use Rattle.fin_dom.specs.Links.{AreMasks, link_fits, is_link_true, IsWithin, agrees_equal, agrees_other, agrees, Narrows, IsRefuted}
 use Rattle.fin_dom.proofs.Masks.{no_bit, bit_from, pow_only}
-use Rattle.fin_dom.proofs.Conjunction.{list_all_front, list_all_back, list_all_take, list_all_item, list_all_single, list_all_one}
+use Rattle.cub_base.proofs.Conjunctions.{list_all_front, list_all_back, list_all_take, list_all_item, list_all_single, list_all_one}
 use Rattle.std.proofs.lemmas.Nat.Bits.{bit_at-zero}
 
 agrees_from_equal : (masks : List ℕ) (w : ℕ → ℕ) → IsWithin masks w → (i a b : ℕ) → b < length masks → w a ≡ w b → agrees_equal masks i (w i) a b ≡ true

@@ -14,7 +14,7 @@ use Rattle.fin_dom.specs.Table.{number_of, low_at}
 use Rattle.fin_dom.specs.Links.{AreMasks, link_fits, is_link_true, IsWithin, Fills, IsNumberBefore, is_settled, agrees, is_skipped, is_passed, is_decided, IsRefuted, IsLeastFill}
 use Rattle.fin_dom.specs.Tried.{IsTried}
 use Rattle.fin_dom.proofs.Masks.{no_bit, pow_has, pow_only, pow_fits, low_has, low_least, some_bit}
-use Rattle.fin_dom.proofs.Conjunction.{list_all_both, list_all_join, list_all_weaker, list_all_front, list_all_back}
+use Rattle.cub_base.proofs.Conjunctions.{list_all_both, list_all_join, list_all_weaker, list_all_front, list_all_back}
 use Rattle.fin_dom.proofs.Narrowing.{all_agreeing}
 use Rattle.fin_dom.proofs.Deciding.{settled_true, all_settled, decided_next, fewer}
 

@@ -21,7 +21,7 @@ use Rattle.fin_dom.proofs.Masks.{low_has, low_below, bit_below, first_bits}
 use Rattle.fin_dom.proofs.Narrowing.{narrows_both, refuted_later}
 use Rattle.std.proofs.lemmas.List.{take-append-le}
 use Rattle.std.proofs.Math.Seq.{take-length}
-use Rattle.fin_dom.proofs.Conjunction.{list_all_both, list_all_front, list_all_back}
+use Rattle.cub_base.proofs.Conjunctions.{list_all_both, list_all_front, list_all_back}
 use Rattle.fin_dom.proofs.Gathering.{entry_numbered, entry_below, solves_front}
 use Rattle.fin_dom.proofs.Searching.{list_all_from_All}
 use Rattle.std.proofs.lemmas.List.Elements.{All-append}

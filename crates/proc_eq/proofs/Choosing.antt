@@ -13,7 +13,7 @@ use Rattle.proc_eq.specs.Solution.{side_fits, sides_fit, Solves, is_true}
 use Rattle.proc_eq.specs.Classes.{node_of, entry_of, AreLabels, AreClosureOf}
 use Rattle.proc_eq.specs.Choice.{IsEarlier, BeginsClass, IsForbidden, IsLeastChoice}
 use Rattle.proc_eq.specs.Chosen.{forbids_by, forbids, IsLeastFree, AreChosen}
-use Rattle.proc_eq.proofs.Conjunction.{IsMember, list_all_member, list_any_member, none_member}
+use Rattle.cub_base.proofs.Conjunctions.{IsMember, list_all_member, list_any_member, none_member}
 use Rattle.proc_eq.proofs.Merging.{node_below, fits_wider, label_near}
 
 -- the side with a number below that of a global

@@ -11,7 +11,7 @@ use Rattle.cub_proto.specs.declared.literal.Lit.TheVariants.{FinIn, FinEq, FinNe
 use Rattle.proc_eq.specs.Solution.{side_fits, sides_fit, Solves, HasSolution, is_true}
 use Rattle.proc_eq.specs.Classes.{entry_of, AreClosureOf}
 use Rattle.proc_eq.specs.Merged.{is_equality_true, is_disequality_true, AreMerged}
-use Rattle.proc_eq.proofs.Conjunction.{list_all_both, list_all_front, list_all_back}
+use Rattle.cub_base.proofs.Conjunctions.{list_all_both, list_all_front, list_all_back}
 use Rattle.proc_eq.proofs.Merging.{fits_wider, merged_none}
 
 both_true : (v : PSide → ℕ) (lit : Lit) → is_equality_true v lit ≡ true → is_disequality_true v lit ≡ true → is_true v lit ≡ true

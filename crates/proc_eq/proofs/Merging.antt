@@ -9,7 +9,8 @@ use Rattle.cub_proto.specs.declared.literal.Lit.TheVariants.{FinIn, FinEq, FinNe
 use Rattle.proc_eq.specs.Solution.{side_fits, Solves, is_true}
 use Rattle.proc_eq.specs.Classes.{node_of, entry_of, AreLabels}
 use Rattle.proc_eq.specs.Merged.{is_equality_true, AreMerged}
-use Rattle.proc_eq.proofs.Conjunction.{list_all_weaker, list_all_join, solves_front, solves_next}
+use Rattle.cub_base.proofs.Conjunctions.{list_all_weaker, list_all_join}
+use Rattle.proc_eq.proofs.Conjunction.{solves_front, solves_next}
 
 pub node_below : (side : PSide) → IsTrue (side_fits 11 side) → node_of side < 75
 node_below (Place p) fit = omega (arith, ltb-true p 11 fit)

@@ -5,7 +5,7 @@ use Rattle.cub_proto.specs.declared.state.Val.{Val}
 use Rattle.cub_proto.specs.declared.state.Val.TheVariants.{Con}
 use Rattle.cub_proto.specs.Configuration.{Configuration, cells_of, HasSlot, put}
 use Rattle.replay.specs.Writes.{with_cells}
-use Rattle.replay.proofs.Lists.{length_mix, mix_more, mix_whole}
+use Rattle.cub_base.proofs.Mixed.{length_mix, mix_more, mix_whole}
 use Rattle.replay.proofs.Shapes.{put_cell, has_cell_there}
 
 module _ (t : Configuration) (a i : ℕ) (ys : List Val) (there : a < length t.arrays) (same : length (cells_of t a) ≡ length ys) where

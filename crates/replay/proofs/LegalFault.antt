@@ -31,9 +31,10 @@ use Rattle.cub_proto.specs.Legal.{TakesPick, MayPick, MayFire, IsLegal, slot_bef
 use Rattle.replay.specs.declared.fault.StepFault.TheVariants.{Dead, Equal, Guard, Other, Pick}
 use Rattle.replay.specs.FitsEvent.{is_of_sort, is_declared, slot_takes, fits_transition, FitsEvent}
 use Rattle.replay.specs.Fault.{is_among, first_dead, first_repeat_after, first_repeat, is_blocking, first_blocking, is_free, is_free_slot, is_no_dead, is_allowed, first_refused, guard_fault, crash_fault, firing_fault, fault_of, fault_at}
-use Rattle.replay.proofs.Lists.{all_pass}
-use Rattle.replay.proofs.Found.{found_fits, none_found, find_none}
-use Rattle.replay.proofs.Slots.{alive_within, slot_before_differs, slot_same, slot_is}
+use Rattle.cub_base.proofs.Elements.{all_from}
+use Rattle.cub_base.proofs.Searches.{found_fits, none_found, find_none}
+use Rattle.cub_proto.proofs.StateValues.{alive_within}
+use Rattle.cub_proto.proofs.Slots.{slot_before_differs, slot_same, slot_is}
 
 -- what an event that fits has
 pub record FitsParts (p : Protocol) (n : ℕ) (o : Option Transition) (params : List ℕ) (picks : List Chosen) : Type 0 where
@@ -57,9 +58,9 @@ fits_parts p n (Some t) params picks h =
       transition = t;
       is_there = refl;
       one_each = eqb-true (length params) t.params c.0;
-      inside = All-weaker (λ i. nat_lt i n ≡ true) (λ i. i < n) (λ i l. ltb-true i n l) params (all_pass (λ i. nat_lt i n) params c.1);
+      inside = All-weaker (λ i. nat_lt i n ≡ true) (λ i. i < n) (λ i l. ltb-true i n l) params (all_from (λ i. nat_lt i n) params c.1);
       rising = b.1;
-      slots = all_pass (λ d. slot_takes p n d.slot d.val) picks a.1;
+      slots = all_from (λ d. slot_takes p n d.slot d.val) picks a.1;
     }
 
 -- the first of two is none exactly where both are
@@ -241,7 +242,7 @@ pub picked_own : (picks : List Chosen) → picks_rise picks ≡ true → All (λ
 picked_own [] rise = All-nil (λ c. picked [] c.slot ≡ Some c.val)
 picked_own (c ∷ cs) rise =
     let parts = and_parts (list_all (λ d. slot_before c.slot d.slot) cs) (picks_rise cs) rise in
-    let before = all_pass (λ d. slot_before c.slot d.slot) cs parts.0 in
+    let before = all_from (λ d. slot_before c.slot d.slot) cs parts.0 in
     let own = picked_own cs parts.1 in
     All-cons (λ d. picked (c ∷ cs) d.slot ≡ Some d.val) c cs
     (ap (λ t. option_map (λ d. d.val) (cond t (Some c) (find (λ d. same_slot d.slot c.slot) cs))) (slot_same c.slot))

@@ -9,7 +9,7 @@ use Rattle.cub_proto.specs.declared.transition.Update.{Update}
 use Rattle.cub_proto.specs.declared.transition.Transition.{Transition}
 use Rattle.cub_proto.specs.Signature.{Signature}
 use Rattle.cub_proto.specs.Fits.{formula_fits, value_fits, branch_fits, update_fits_sort, update_fits, targets_rise, picks_process, transition_fits}
-use Rattle.replay.proofs.Lists.{all_pass}
+use Rattle.cub_base.proofs.Elements.{all_from}
 
 pub record TransitionParts (sig : Signature) (t : Transition) : Type 0 where
   pub few : t.params ≤ 3
@@ -35,7 +35,7 @@ transition_parts sig t h =
       few = omega arith;
       guard = d.1;
       others = c.1;
-      updates = all_pass (update_fits sig t.params) t.updates b.1;
+      updates = all_from (update_fits sig t.params) t.updates b.1;
       rising = a.1;
     }
 
@@ -55,6 +55,6 @@ update_parts sig width (Some sort) u h =
     record {
       sort = sort;
       is_sort = refl;
-      branches = all_pass (branch_fits sig width sort) u.branches b.1;
+      branches = all_from (branch_fits sig width sort) u.branches b.1;
       last = a.1;
     }

@@ -12,14 +12,16 @@ use Rattle.cub_proto.specs.declared.state.Val.TheVariants.{Con}
 use Rattle.cub_proto.specs.declared.event.Chosen.{Chosen}
 use Rattle.cub_proto.specs.Configuration.{Configuration, is_alive, value_at, cells_of, HasSlot, put}
 use Rattle.cub_proto.specs.Fits.{is_any, targets_rise}
-use Rattle.cub_proto.specs.Effect.{map_from, counting, settled, updated, update_of, global_after, cell_after, cells_after, fired, same_slot, picked}
+use Rattle.cub_base.specs.Numbered.{map_from}
+use Rattle.cub_proto.specs.Effect.{counting, settled, updated, update_of, global_after, cell_after, cells_after, fired, same_slot, picked}
 use Rattle.cub_proto.specs.Legal.{picks_rise}
 use Rattle.replay.specs.Fault.{is_free, is_free_slot, is_no_dead, is_allowed}
 use Rattle.replay.specs.Writes.{HasTarget, with_cells, written_at, written, placed, copied_at, copied}
-use Rattle.replay.proofs.Lists.{get_or-map_from_zero}
-use Rattle.replay.proofs.Found.{fresh_target, update_here, update_found}
-use Rattle.replay.proofs.Fired.{map_from_same, map_from_set, more_at, fired_nothing}
-use Rattle.replay.proofs.Slots.{alive_within, arrays_differ, processes_differ, fresh_slot, picked_elsewhere, picked_here}
+use Rattle.cub_base.proofs.Numbered.{get_or-map_from_zero, map_from_same, map_from_set}
+use Rattle.cub_proto.proofs.Targets.{fresh_target, update_here, update_found}
+use Rattle.replay.proofs.Fired.{more_at, fired_nothing}
+use Rattle.cub_proto.proofs.StateValues.{alive_within}
+use Rattle.cub_proto.proofs.Slots.{arrays_differ, processes_differ, fresh_slot, picked_elsewhere, picked_here}
 
 abbrev pub nothing : Slot → Option Val
 nothing slot = None

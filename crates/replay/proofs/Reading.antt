@@ -23,9 +23,10 @@ use Rattle.cub_proto.specs.Effect.{update_of}
 use Rattle.replay.specs.Bound.{size_of, IsWithin}
 use Rattle.replay.specs.Reads.{IsFiring, ReadsValue, ReadsUpdate, ReadsTarget, ReadsUpdates}
 use Rattle.replay.specs.Writes.{HasTarget}
-use Rattle.replay.proofs.Found.{update_found}
+use Rattle.cub_proto.proofs.Targets.{update_found}
 use Rattle.replay.proofs.Parts.{transition_parts, UpdateParts, update_parts}
-use Rattle.replay.proofs.Readable.{Fills, fills_more, global_there, array_there, has_term, has_process_side, has_integer_side, has_conjunction, sort_is_some}
+use Rattle.cub_proto.proofs.Readable.{Fills, global_there, array_there, has_term, has_process_side, has_integer_side, has_conjunction}
+use Rattle.cub_proto.proofs.Readable.{fills_more, sort_is_some}
 
 pub integer_size : (v : Val) → unsigned_abs (integer_of v) ≤ size_of v
 integer_size (Con c) = omega arith

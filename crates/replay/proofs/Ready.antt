@@ -19,7 +19,7 @@ use Rattle.replay.specs.FitsEvent.{FitsEvent, slot_takes}
 use Rattle.replay.specs.Fault.{is_free_slot, is_no_dead, is_allowed, fault_of, fault_at}
 use Rattle.replay.specs.Machine.{IsReady}
 use Rattle.replay.proofs.Parts.{transition_parts}
-use Rattle.replay.proofs.Readable.{Fills}
+use Rattle.cub_proto.proofs.Readable.{Fills}
 use Rattle.replay.proofs.LegalFault.{FitsParts, fits_parts, no_fault, picked_from, legal_without_fault}
 use Rattle.replay.proofs.Applied.{transition_at}
 use Rattle.replay.proofs.Within.{allowed_small, fired_within}

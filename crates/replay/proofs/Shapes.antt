@@ -9,9 +9,10 @@ use Rattle.cub_proto.specs.declared.state.Slot.{Slot}
 use Rattle.cub_proto.specs.declared.state.Val.{Val}
 use Rattle.cub_proto.specs.Configuration.{Configuration, cells_of, HasSlot, put}
 use Rattle.std.proofs.Common.{Option}
-use Rattle.cub_proto.specs.Effect.{cell_after, cells_after, global_after, update_of, fired, map_from}
+use Rattle.cub_proto.specs.Effect.{cell_after, cells_after, global_after, update_of, fired}
+use Rattle.cub_base.specs.Numbered.{map_from}
 use Rattle.replay.specs.Writes.{SameShape, HasTarget, with_cells, new_cells, written_at, copied_at}
-use Rattle.replay.proofs.Lists.{length-map_from, get_or-map_from_zero}
+use Rattle.cub_base.proofs.Numbered.{length-map_from, get_or-map_from_zero}
 
 -- the cells of an array that was given other cells
 pub cells_of_same : (t : Configuration) (a : ℕ) (cells : List Val) → a < length t.arrays → cells_of (with_cells t a cells) a ≡ cells

@@ -24,7 +24,7 @@ use Rattle.replay.specs.Bound.{size_of, AreWithin, IsWithin, greatest_start}
 use Rattle.replay.specs.FitsEvent.{is_declared, slot_takes}
 use Rattle.replay.specs.FitsStart.{FitsStart, is_start_value}
 use Rattle.replay.proofs.LegalFault.{of_sort}
-use Rattle.replay.proofs.Readable.{global_there, array_there}
+use Rattle.cub_proto.proofs.Readable.{global_there, array_there}
 use Rattle.std.proofs.Common.{not, is_some, inl, inr}
 use Rattle.std.proofs.lemmas.Bool.{cases_lt}
 use Rattle.std.proofs.lemmas.List.{get_or_past}

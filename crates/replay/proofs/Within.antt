@@ -16,16 +16,18 @@ use Rattle.cub_proto.specs.Signature.{Signature, sort_of, declared_sort, target_
 use Rattle.cub_proto.specs.Fits.{is_any, place_fits, integer_side_fits, conjunction_fits, value_fits, branch_fits, update_width, update_fits_sort, update_fits, greatest_constant}
 use Rattle.cub_proto.specs.StateOf.{IsStateOf, signature_of}
 use Rattle.cub_proto.specs.Truth.{integer_at}
-use Rattle.cub_proto.specs.Effect.{map_from, counting, settled, updated, update_of, global_after, cell_after, cells_after, fired}
+use Rattle.cub_base.specs.Numbered.{map_from}
+use Rattle.cub_proto.specs.Effect.{counting, settled, updated, update_of, global_after, cell_after, cells_after, fired}
 use Rattle.replay.specs.FitsEvent.{is_of_sort, is_declared, slot_takes}
 use Rattle.replay.specs.Fault.{is_free, is_free_slot}
 use Rattle.replay.specs.Bound.{size_of, AreWithin, IsWithin}
-use Rattle.replay.proofs.Found.{update_found}
+use Rattle.cub_proto.proofs.Targets.{update_found}
 use Rattle.replay.proofs.Counting.{of_chosen}
 use Rattle.replay.proofs.Parts.{UpdateParts, update_parts}
-use Rattle.replay.proofs.Readable.{Fills, fills_more, has_term, has_integer_side, sort_is_some}
+use Rattle.cub_proto.proofs.Readable.{Fills, has_term, has_integer_side}
+use Rattle.cub_proto.proofs.Readable.{fills_more, sort_is_some}
 use Rattle.replay.proofs.Reading.{term_within, side_within}
-use Rattle.replay.proofs.Slots.{alive_within}
+use Rattle.cub_proto.proofs.StateValues.{alive_within}
 
 -- what holds of each element's image holds of the list of images
 all_map_from : {A B : Type 0} (P : A → Type 0) (Q : B → Type 0) (f : ℕ → A → B) (n : ℕ) (xs : List A) → ((k : ℕ) (x : A) → P x → Q (f k x)) → All P xs → All Q (map_from f n xs)

@@ -7,7 +7,8 @@ use Rattle.cub_proto.specs.declared.state.Slot.TheVariants as Slot
 use Rattle.cub_proto.specs.declared.state.Val.{Val}
 use Rattle.cub_proto.specs.declared.event.Chosen.{Chosen}
 use Rattle.cub_proto.specs.Configuration.{Configuration, value_at, cells_of, put}
-use Rattle.cub_proto.specs.Effect.{map_from, updated, cell_after}
+use Rattle.cub_base.specs.Numbered.{map_from}
+use Rattle.cub_proto.specs.Effect.{updated, cell_after}
 
 -- two configurations have the same slots and the same living processes
 pub record SameShape (s t : Configuration) : Type 0 where

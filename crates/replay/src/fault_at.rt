@@ -7,7 +7,7 @@ ghost use Rattle.cub_proto.specs.Effect.{chosen, counting, update_of, same_targe
 ghost use Rattle.cub_proto.specs.declared.state.Slot.TheVariants as Slot;
 ghost use Rattle.std.specs.Option.{option_copied};
 ghost use Rattle.cub_proto.specs.Fits.{is_any};
-ghost use Rattle.cub_proto.specs.Truth.{HasLiterals};
+ghost use Rattle.cub_proto.specs.Truth.{HasLiterals, any_true};
 ghost use Rattle.replay.specs.Fault.{is_among, first_dead, first_repeat, is_blocking, first_blocking, is_free, is_free_slot, is_no_dead, is_allowed, first_refused, firing_fault};
 ghost use Rattle.replay.specs.Reads.{IsFiring, ReadsConditions, ReadsUpdates};
 
@@ -66,6 +66,24 @@ pub fn widened(params: &[u32], process: u32) -> ArrayVec<u32, 4>
     places
 }
 
+fn has_alternative(
+    protocol: &Protocol,
+    state: &State,
+    transition: &Transition,
+    params: &[u32],
+    process: u32,
+) -> bool
+    requires firing { IsFiring protocol.now state.now transition.now params.now }
+    requires process { process < process_count state.now }
+    ensures { result ≡ any_true state.now (params.now ++ process ∷ []) transition.now.others }
+{
+    any_holds(
+        state,
+        transition.others.as_slice(),
+        widened(params, process).as_slice(),
+    )
+}
+
 fn is_blocking(
     protocol: &Protocol,
     state: &State,
@@ -79,11 +97,7 @@ fn is_blocking(
 {
     is_alive(state, process)
         && !is_among(params, process)
-        && !any_holds(
-            state,
-            transition.others.as_slice(),
-            widened(params, process).as_slice(),
-        )
+        && !has_alternative(protocol, state, transition, params, process)
 }
 
 fn first_blocking(

@@ -1,7 +1,7 @@
 use Rattle.std.proofs.Common.{sym, ◌∙◌}
 use Rattle.cub_proto.specs.Signature.{signature}
 use Rattle.cub_proto.specs.Fits.{goal_fits}
-use Rattle.cub_proto.proofs.Elements.{all_from, from_all}
+use Rattle.cub_base.proofs.Elements.{all_from, from_all}
 use Rattle.cub_proto.proofs.protocol.goals_fit.Goals as goal
 
 pub returns : goal.returns

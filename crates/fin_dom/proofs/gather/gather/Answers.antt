@@ -3,7 +3,7 @@ use Rattle.std.proofs.Math.Seq.{take-length}
 use Rattle.cub_proto.specs.declared.literal.Lit.TheVariants.{FinIn}
 use Rattle.cub_proto.specs.declared.literal.Term.TheVariants.{Global}
 use Rattle.cub_proto.specs.StateOf.{signature_of}
-use Rattle.fin_dom.proofs.Conjunction.{append_take_more}
+use Rattle.cub_base.proofs.Conjunctions.{append_take_more}
 use Rattle.fin_dom.proofs.Gathering.{solution_prefix}
 use Rattle.fin_dom.proofs.gather.gather.Goals as goal
 

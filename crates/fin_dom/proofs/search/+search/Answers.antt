@@ -6,7 +6,7 @@ use Rattle.std.proofs.lemmas.List.Elements.{All-append}
 use Rattle.cub_proto.specs.Truth.{has_bit}
 use Rattle.fin_dom.specs.Links.{AreMasks, link_fits, is_passed, agrees}
 use Rattle.fin_dom.specs.Tried.{IsTried}
-use Rattle.fin_dom.proofs.Conjunction.{list_all_join}
+use Rattle.cub_base.proofs.Conjunctions.{list_all_join}
 use Rattle.fin_dom.proofs.Searching.{list_all_from_All, all_passed_sooner, least_settled, least_lifted, branch_refuted, decided_all, start_keeps, start_inside, tried_from, tried_masks, masks_same, fits_same}
 use Rattle.fin_dom.proofs.search.+search.Goals as goal
 

@@ -2,7 +2,8 @@ use Rattle.std.proofs.Common.{◌++◌, [], sym, ◌∙◌}
 use Rattle.std.proofs.lemmas.Bool.{true_from_ne_false, false≢true}
 use Rattle.proc_eq.specs.Classes.{entry_of}
 use Rattle.proc_eq.specs.Merged.{AreMerged, is_disequality_true}
-use Rattle.proc_eq.proofs.Conjunction.{solves_front, list_all_join}
+use Rattle.proc_eq.proofs.Conjunction.{solves_front}
+use Rattle.cub_base.proofs.Conjunctions.{list_all_join}
 use Rattle.proc_eq.proofs.Merging.{merged_none}
 use Rattle.proc_eq.proofs.Closing.{closed, broken_first, broken_second, all_wider, merged_both}
 use Rattle.proc_eq.proofs.labels.close.Goals as goal

@@ -2,7 +2,8 @@ use Rattle.std.proofs.Common.{◌≡◌, ℕ, ◌++◌, take, length, ap, ◌∙
 use Rattle.std.proofs.Math.Seq.{take-length}
 use Rattle.cub_proto.specs.declared.literal.Lit.TheVariants.{FinIn}
 use Rattle.cub_proto.specs.declared.literal.Term.TheVariants.{Global}
-use Rattle.proc_eq.proofs.Conjunction.{append_take_more, solves_prefix}
+use Rattle.cub_base.proofs.Conjunctions.{append_take_more}
+use Rattle.proc_eq.proofs.Conjunction.{solves_prefix}
 use Rattle.proc_eq.proofs.labels.take_all.Goals as goal
 
 pub returns-then-not-take-clause-none : goal.returns-then-not-take-clause-none

@@ -5,7 +5,7 @@ use Rattle.cub_proto.specs.declared.transition.Target.TheVariants as Target
 use Rattle.cub_proto.specs.Configuration.{Configuration, cells_of}
 use Rattle.cub_proto.specs.Effect.{cell_after}
 use Rattle.replay.specs.Writes.{SameShape, HasTarget, new_cells}
-use Rattle.replay.proofs.Lists.{length-map_from, get_or-map_from_zero}
+use Rattle.cub_base.proofs.Numbered.{length-map_from, get_or-map_from_zero}
 use Rattle.replay.proofs.Cells.{cells_there, cells_more, cells_whole}
 use Rattle.replay.proofs.effect.write_cells.Goals as goal
 

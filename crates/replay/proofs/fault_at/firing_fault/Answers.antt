@@ -2,7 +2,7 @@ use Rattle.std.proofs.Common.{sym, subst, All}
 use Rattle.cub_proto.specs.StateOf.{signature_of}
 use Rattle.cub_proto.specs.Truth.{HasLiterals}
 use Rattle.replay.proofs.Parts.{transition_parts}
-use Rattle.replay.proofs.Readable.{Fills, has_formula}
+use Rattle.cub_proto.proofs.Readable.{Fills, has_formula}
 use Rattle.replay.proofs.fault_at.firing_fault.Goals as goal
 
 pub any_holds-requires : goal.any_holds-requires

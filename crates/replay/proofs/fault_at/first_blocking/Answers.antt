@@ -1,6 +1,6 @@
 use Rattle.std.proofs.Common.{sym, ◌∙◌, arith}
 use Rattle.replay.specs.Fault.{is_blocking}
-use Rattle.replay.proofs.Lists.{find_range_yes, find_range_no, find_range_none}
+use Rattle.cub_base.proofs.Searches.{find_range_yes, find_range_no, find_range_none}
 use Rattle.replay.proofs.fault_at.first_blocking.Goals as goal
 
 pub returns-then-is_blocking : goal.returns-then-is_blocking

@@ -2,7 +2,7 @@ use Rattle.std.proofs.Common.{sym, ◌∙◌, subst}
 use Rattle.cub_proto.specs.declared.transition.Target.TheVariants as Target
 use Rattle.replay.specs.Reads.{ReadsConditions}
 use Rattle.replay.proofs.Reading.{reads_found}
-use Rattle.replay.proofs.Slots.{alive_within}
+use Rattle.cub_proto.proofs.StateValues.{alive_within}
 use Rattle.replay.proofs.fault_at.is_free_cell.Goals as goal
 
 pub counting-requires : goal.counting-requires

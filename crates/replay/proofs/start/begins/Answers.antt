@@ -6,7 +6,7 @@ use Rattle.cub_proto.specs.Configuration.{process_count}
 use Rattle.cub_proto.specs.Fits.{conjunction_fits, compares_no_place}
 use Rattle.cub_proto.specs.StateOf.{signature_of}
 use Rattle.cub_proto.specs.Truth.{HasLiterals}
-use Rattle.replay.proofs.Readable.{Fills, has_conjunctions}
+use Rattle.cub_proto.proofs.Readable.{Fills, has_conjunctions}
 use Rattle.replay.proofs.start.begins.Goals as goal
 
 pub any_holds-requires : goal.any_holds-requires

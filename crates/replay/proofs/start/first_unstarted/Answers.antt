@@ -1,6 +1,6 @@
 use Rattle.std.proofs.Common.{not, [], ◌∷◌, sym, ap, ◌∙◌}
 use Rattle.cub_proto.specs.Truth.{any_true}
-use Rattle.replay.proofs.Lists.{find_range_no}
+use Rattle.cub_base.proofs.Searches.{find_range_no}
 use Rattle.replay.proofs.start.first_unstarted.Goals as goal
 
 pub loop-process-preserved : goal.loop-process-preserved

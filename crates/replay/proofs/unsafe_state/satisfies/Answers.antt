@@ -5,8 +5,8 @@ use Rattle.cub_proto.specs.Configuration.{process_count, IsAlive}
 use Rattle.cub_proto.specs.Fits.{conjunction_fits}
 use Rattle.cub_proto.specs.StateOf.{signature_of}
 use Rattle.cub_proto.specs.Truth.{HasLiterals}
-use Rattle.replay.proofs.Readable.{Fills, has_conjunction}
-use Rattle.replay.proofs.Slots.{alive_within}
+use Rattle.cub_proto.proofs.Readable.{Fills, has_conjunction}
+use Rattle.cub_proto.proofs.StateValues.{alive_within}
 use Rattle.replay.proofs.unsafe_state.satisfies.Goals as goal
 
 pub all_hold-requires : goal.all_hold-requires

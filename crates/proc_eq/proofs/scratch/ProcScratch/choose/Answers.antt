@@ -4,7 +4,7 @@ use Rattle.proc_eq.specs.Solution.{sides_fit}
 use Rattle.proc_eq.specs.Classes.{Classes, entry_of}
 use Rattle.proc_eq.specs.Chosen.{AreChosen}
 use Rattle.proc_eq.specs.Choice.{IsLeastChoice}
-use Rattle.proc_eq.proofs.Conjunction.{list_all_from_All}
+use Rattle.cub_base.proofs.Elements.{from_all}
 use Rattle.proc_eq.proofs.Closing.{all_wider, written_back}
 use Rattle.proc_eq.proofs.Choosing.{least_choice}
 use Rattle.proc_eq.proofs.scratch.ProcScratch.choose.Goals as goal
@@ -23,6 +23,6 @@ returns-clause-chosen c =
     written_back items c.choose.new.processes c.self.inside.processes.len (omega (arith, c.choose.ensures.size, size)) (omega (arith, c.self.inside.processes.ok.0)) in
     let least : IsLeastChoice c.args.self.now.width whole (entry_of c.choose.new.processes) =
     least_choice c.args.self.now.width whole c.args.self.now.labels c.choose.new.processes c.requires.closed c.requires.narrow
-    (list_all_from_All (sides_fit c.args.self.now.width) whole fit)
-    (list_all_from_All (sides_fit 11) whole (all_wider c.args.self.now.width c.requires.narrow whole fit)) chosen in
+    (from_all (sides_fit c.args.self.now.width) whole fit)
+    (from_all (sides_fit 11) whole (all_wider c.args.self.now.width c.requires.narrow whole fit)) chosen in
     rw (width, back) least

@@ -1,25 +1,15 @@
 -- Slots told apart, and what is picked for them.
-use Rattle.std.proofs.Common.{◌≡◌, ℕ, ◌<◌, Bool, true, false, cond, ◌&&◌, ◌==◌, nat_lt, List, [], ◌∷◌, ◌++◌, Some, None, length, find, refl, sym, ap, ◌∙◌, arith}
+use Rattle.std.proofs.Common.{◌≡◌, ℕ, Bool, true, false, cond, ◌&&◌, ◌==◌, nat_lt, List, [], ◌∷◌, ◌++◌, Some, None, find, refl, sym, ap, ◌∙◌, arith}
 use Rattle.std.specs.Option.{option_or, option_map}
 use Rattle.std.specs.List.{list_all}
 use Rattle.std.proofs.Common.{inl, inr}
-use Rattle.std.proofs.lemmas.Bool.{and_parts, eqb-true, eq-eqb, ltb-true, ne_eqb, or_cases, cases_lt, cond-true, cond-false}
-use Rattle.std.proofs.lemmas.List.{get_or_past}
+use Rattle.std.proofs.lemmas.Bool.{and_parts, eqb-true, eq-eqb, ltb-true, ne_eqb, or_cases, cond-true, cond-false}
 use Rattle.std.proofs.lemmas.List.Folds.{find-append}
 use Rattle.cub_proto.specs.declared.state.Slot.{Slot}
 use Rattle.cub_proto.specs.declared.event.Chosen.{Chosen}
-use Rattle.cub_proto.specs.Configuration.{Configuration, process_count, is_alive}
 use Rattle.cub_proto.specs.Effect.{same_slot, picked}
 use Rattle.cub_proto.specs.Legal.{slot_before, picks_rise}
-use Rattle.replay.proofs.Found.{or_none}
-
--- who is alive is there
-pub alive_within : (s : Configuration) (i : ℕ) → is_alive s i ≡ true → i < process_count s
-alive_within s i h =
-    elim (cases_lt i (length s.living)) as (λ _. i < process_count s) [
-      | inl within ↦ within
-      | inr past ↦ absurd (let e : false ≡ true = sym (get_or_past s.living i false past) ∙ h in cc)
-    ]
+use Rattle.cub_base.proofs.Searches.{or_none}
 
 cells_differ : (a b i j : ℕ) → slot_before (Slot.Cell a i) (Slot.Cell b j) ≡ true → same_slot (Slot.Cell a i) (Slot.Cell b j) ≡ false
 cells_differ a b i j x =

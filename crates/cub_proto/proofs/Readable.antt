@@ -19,7 +19,7 @@ use Rattle.cub_proto.specs.Signature.{declared_sort, sort_of, is_sort, same_fini
 use Rattle.cub_proto.specs.Fits.{place_fits, process_side_fits, integer_side_fits, is_finite, literal_fits, is_bounded, greatest_bound, conjunction_fits, formula_fits}
 use Rattle.cub_proto.specs.StateOf.{IsStateOf, AreCells, signature_of}
 use Rattle.cub_proto.specs.Truth.{HasTerm, HasProcessSide, HasIntegerSide, HasLiteral, HasLiterals}
-use Rattle.replay.proofs.Lists.{all_pass}
+use Rattle.cub_base.proofs.Elements.{all_from}
 
 pub sort_is_some : (o : Option Sort) (sort : Sort) → is_sort o sort ≡ true → is_some o ≡ true
 sort_is_some None sort h = cc
@@ -132,12 +132,12 @@ module _ (p : Protocol) (s : Configuration) (state : IsStateOf p s) (width : ℕ
       let outer = and_parts (nat_le (length lits) 64 && each) (list_all (is_bounded greatest_bound) lits) h in
       let inner = and_parts (nat_le (length lits) 64) each outer.0 in
       All-weaker (λ l. literal_fits (signature_of p) width l ≡ true) (HasLiteral s places) has_literal lits
-      (all_pass (literal_fits (signature_of p) width) lits inner.1)
+      (all_from (literal_fits (signature_of p) width) lits inner.1)
 
   pub has_conjunctions : (conjs : List (List Lit)) → list_all (conjunction_fits (signature_of p) width) conjs ≡ true → All (λ lits. HasLiterals s places lits) conjs
   has_conjunctions conjs h =
       All-weaker (λ lits. conjunction_fits (signature_of p) width lits ≡ true) (λ lits. HasLiterals s places lits) has_conjunction conjs
-      (all_pass (conjunction_fits (signature_of p) width) conjs h)
+      (all_from (conjunction_fits (signature_of p) width) conjs h)
 
   pub has_formula : (conjs : List (List Lit)) → formula_fits (signature_of p) width conjs ≡ true → All (λ lits. HasLiterals s places lits) conjs
   has_formula conjs h =

@@ -1,43 +1,14 @@
--- What a search finds, and the update of a target.
-use Rattle.std.proofs.Common.{◌≡◌, Bool, true, false, cond, List, [], ◌∷◌, ◌++◌, Option, Some, None, find, refl, sym, ap, ◌∙◌, arith, All, subst}
+-- The update of a target, where the targets of the updates rise.
+use Rattle.std.proofs.Common.{◌≡◌, Bool, true, false, cond, List, [], ◌∷◌, ◌++◌, Some, None, refl, ap, ◌∙◌, arith, All}
 use Rattle.std.specs.List.{list_all}
 use Rattle.std.specs.Option.{option_or}
 use Rattle.std.proofs.lemmas.Bool.{and_parts, eqb-true, eq-eqb, ltb-true, ne_eqb}
-use Rattle.std.proofs.lemmas.List.Elements.{All-cons, All-nil, All-head, All-tail}
 use Rattle.std.proofs.lemmas.List.Folds.{find-append}
+use Rattle.cub_base.proofs.Searches.{found_fits, or_none}
 use Rattle.cub_proto.specs.declared.transition.Target.{Target}
 use Rattle.cub_proto.specs.declared.transition.Update.{Update}
 use Rattle.cub_proto.specs.Effect.{same_target, update_of}
 use Rattle.cub_proto.specs.Fits.{target_before, targets_rise}
-
--- what is found passes, and is one of the list
-pub found_fits : {X : Type 0} (P : X → Type 0) (test : X → Bool) (xs : List X) (y : X) → All P xs → find test xs ≡ Some y → P y × (test y ≡ true)
-found_fits P test [] y each h = absurd (let e : None ≡ Some y = h in cc)
-found_fits {X} P test (x ∷ xs) y each h =
-    (elim (test x) as (λ t. test x ≡ t → cond t (Some x) (find test xs) ≡ Some y → P y × (test y ≡ true)) [
-      | true ↦ λ is found. here is found
-      | false ↦ λ is found. found_fits P test xs y (All-tail P x xs each) found
-    ]) refl h
-  where
-    here : test x ≡ true → Some x ≡ Some y → P y × (test y ≡ true)
-    here is found =
-        let same : x ≡ y = cc in
-        (subst P same (All-head P x xs each), ap test (sym same) ∙ is)
-
--- nothing is found exactly where no element passes
-pub none_found : {X : Type 0} (test : X → Bool) (xs : List X) → find test xs ≡ None → All (λ x. test x ≡ false) xs
-none_found test [] h = All-nil (λ x. test x ≡ false)
-none_found {X} test (x ∷ xs) h =
-    (elim (test x) as (λ t. test x ≡ t → cond t (Some x) (find test xs) ≡ None → All (λ y. test y ≡ false) (x ∷ xs)) [
-      | true ↦ λ is found. absurd (let e : Some x ≡ None = found in cc)
-      | false ↦ λ is found. All-cons (λ y. test y ≡ false) x xs is (none_found test xs found)
-    ]) refl h
-
-pub find_none : {X : Type 0} (test : X → Bool) (xs : List X) → All (λ x. test x ≡ false) xs → find test xs ≡ None
-find_none test [] h = refl
-find_none test (x ∷ xs) h =
-    ap (λ t. cond t (Some x) (find test xs)) (All-head (λ y. test y ≡ false) x xs h)
-    ∙ find_none test xs (All-tail (λ y. test y ≡ false) x xs h)
 
 -- the test of targets is equality
 pub target_is : (a b : Target) → same_target a b ≡ true → a ≡ b
@@ -81,10 +52,6 @@ update_of_more done u target = find-append (λ v. same_target v.target target) d
 
 pub update_of_whole : (done us : List Update) (u : Update) (target : Target) → update_of (done ++ u ∷ us) target ≡ option_or (update_of done target) (cond (same_target u.target target) (Some u) (update_of us target))
 update_of_whole done us u target = find-append (λ v. same_target v.target target) done (u ∷ us)
-
-pub or_none : {X : Type 0} (o : Option X) → option_or o None ≡ o
-or_none None = refl
-or_none (Some x) = refl
 
 -- elsewhere nothing changes
 pub update_elsewhere : (done : List Update) (u : Update) (target : Target) → same_target u.target target ≡ false → update_of (done ++ u ∷ []) target ≡ update_of done target

@@ -1,8 +1,9 @@
 use Rattle.std.proofs.Common.{◌+◌, arith}
 use Rattle.cub_proto.specs.StateOf.{signature_of}
 use Rattle.replay.proofs.Parts.{transition_parts}
-use Rattle.replay.proofs.Readable.{Fills, fills_more, has_formula}
-use Rattle.replay.proofs.fault_at.is_blocking.Goals as goal
+use Rattle.cub_proto.proofs.Readable.{Fills, has_formula}
+use Rattle.cub_proto.proofs.Readable.{fills_more}
+use Rattle.replay.proofs.fault_at.has_alternative.Goals as goal
 
 pub widened-requires : goal.widened-requires
 widened-requires c =
@@ -19,4 +20,4 @@ any_holds-requires c =
     let fills : Fills c.args.state.now c.args.params.now t.params = record { one_each = firing.one_each; processes = firing.processes } in
     let more = fills_more c.args.state.now c.args.params.now t.params c.args.process fills c.requires.process in
     let has = has_formula c.args.protocol.now c.args.state.now firing.state_of (t.params + 1) _ more t.others parts.others in
-    rw (c.as_slice.ensures, c.as_slice-then-not-is_among.ensures.value, c.widened.ensures) has
+    rw (c.as_slice.ensures, c.as_slice-2.ensures.value, c.widened.ensures) has
