@@ -1,0 +1,5 @@
+pub mod Asked
+pub mod Given
+pub mod Reading
+pub mod Table
+pub mod Words
