@@ -1,0 +1,5 @@
+pub mod Lists
+pub mod Normal
+pub mod Measured
+pub mod Fits
+pub mod Meaning

@@ -1,0 +1,7 @@
+use Rattle.std.proofs.Common.{◌≡◌, ◌+◌, drop}
+use Rattle.std.specs.List.{prefix_len}
+use Rattle.text_lines.specs.Word.{is_separator}
+use Rattle.text_lines.proofs.words.gap_len.Given as goal
+
+abbrev pub invariant-loop-at : goal.invariant-loop-at
+invariant-loop-at l = l.at + prefix_len is_separator (drop l.at l.bytes) ≡ prefix_len is_separator l.bytes
