@@ -1,0 +1,10 @@
+pub mod ListLemmas
+pub mod PlacingLemmas
+pub mod PickLemmas
+pub mod SelectionLemmas
+pub mod Suiting
+pub mod Fitting
+pub mod Limits
+pub mod Widths
+pub mod Candidates
+pub mod Examples

@@ -1,0 +1,5 @@
+pub mod Placings
+pub mod Picks
+pub mod Selections
+pub mod Conjunction
+pub mod Pieces

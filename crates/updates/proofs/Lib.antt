@@ -1,0 +1,9 @@
+pub mod Products
+pub mod WayLemmas
+pub mod Fitting
+pub mod ChoiceLemmas
+pub mod Present
+pub mod StepLemmas
+pub mod Pushing
+pub mod Replacing
+pub mod Transitions
