@@ -1,0 +1,13 @@
+pub mod Covered
+pub mod Additions
+pub mod FirstCovers
+pub mod Growth
+pub mod Rooted
+pub mod Weave
+pub mod Lives
+pub mod Finished
+pub mod Unique
+pub mod Prefixes
+pub mod StaleLemmas
+pub mod FormFits
+pub mod Depths

@@ -1,0 +1,14 @@
+pub mod Numbering
+pub mod Pieces
+pub mod Forms
+pub mod Starts
+pub mod Links
+pub mod Fates
+pub mod Log
+pub mod Legal
+pub mod Origins
+pub mod Later
+pub mod Stale
+pub mod Verdict
+pub mod Test
+pub mod Depth
