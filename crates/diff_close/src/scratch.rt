@@ -4,7 +4,7 @@
 //! each made when it is read. So nothing is stored but the table, of which only the corner of the mentioned terms is
 //! touched, and a call takes no memory.
 
-ghost use Rattle.std.specs.Prelude.{◌≡◌, ◌≤◌, [], ◌++◌, List, All, ℤ, IfOk, OnOk, OnErr};
+ghost use Rattle.std.specs.Prelude.{◌≡◌, ◌≤◌, [], ◌++◌, List, All, ℤ, pos, ◌-ℤ◌, ◌≤ℤ◌, IfOk, OnOk, OnErr};
 ghost use Rattle.cub_proto.specs.declared.literal.Lit.{Lit};
 ghost use Rattle.diff_close.specs.Literals.{HasSolution, IsNegativeCycle, IsLeastBound, IsChosen, MentionAtMost, HasSmallBound};
 ghost use Rattle.diff_close.specs.Scratch.{IsClosureOf, IsClosed};
@@ -101,7 +101,9 @@ impl DiffScratch {
     /// The chosen solution at a side: the least sum of a path that ends there, less that of zero. For use after an `Ok`.
     pub fn value(&self, a: ISide) -> i64
         requires { IsClosed self.now }
-        ensures { (lits : List Lit) → IsClosureOf lits self.now → IsChosen lits a result }
+        ensures chosen { (lits : List Lit) → IsClosureOf lits self.now → IsChosen lits a result }
+        ensures at_least { (pos 0 -ℤ result) ≤ℤ pos 29554872554618880 }
+        ensures at_most { result ≤ℤ pos 29554872554618880 }
     {
         let terms = self.names.as_slice();
         let here = node(terms, &a);

@@ -1,10 +1,11 @@
 //! The scratch of finite terms: made once, then used for any number of conjunctions. A call costs a write of the whole
 //! table, a pass over the literals, and two passes over the links; only open links are searched.
 
-ghost use Rattle.std.specs.Prelude.{◌≡◌, ◌++◌, ◌↔◌, ◌-◌, ◌^◌, List, length, replicate, All, IsTrue, false, IfOk};
+ghost use Rattle.std.specs.Prelude.{◌≡◌, ◌++◌, ◌↔◌, ◌-◌, ◌^◌, List, length, replicate, slice_index, All, IsTrue, false, IfOk};
 ghost use Rattle.cub_proto.specs.StateOf.{signature_of};
 ghost use Rattle.fin_dom.specs.Solution.{HasSolution, IsLeastSolution};
-ghost use Rattle.fin_dom.specs.Table.{con_of, terms_fit};
+ghost use Rattle.fin_dom.specs.Table.{con_of, terms_fit, has_entry, number_of};
+ghost use Rattle.fin_dom.specs.Gathered.{AreGathered};
 ghost use Rattle.fin_dom.specs.Links.{AreMasks, link_fits, Narrows, IsRefuted};
 
 use crate::gather::{clear, gather};
@@ -55,7 +56,19 @@ fn fill(protocol: &Protocol, masks: &mut [u64], lits: &[Lit], more: &[Lit]) -> b
     search(masks, 0, lits, more)
 }
 
-/// Masks of the constructors that are left to the terms of the last call of `solve`.
+// Fills the table with what each literal says of a term alone. False where that leaves nothing to a term.
+fn fill_domains(protocol: &Protocol, masks: &mut [u64], lits: &[Lit]) -> bool
+    requires { All (λ lit. IsTrue (terms_fit (signature_of protocol.now) (length masks.old) lit)) lits.now }
+    ensures size { length masks.new ≡ length masks.old }
+    ensures gathered { IsTrue result → AreGathered (signature_of protocol.now) lits.now masks.new }
+    ensures none { result ≡ false → HasSolution (signature_of protocol.now) lits.now → ⊥ }
+{
+    let table = masks;
+    clear(table);
+    gather(protocol, table, lits)
+}
+
+/// Masks of the constructors that are left to the terms of the last call of `solve` or `gather`.
 #[derive(Debug, Drop)]
 pub struct FinScratch {
     masks: Vec<u64>,
@@ -91,6 +104,25 @@ impl FinScratch {
         ensures least { IsTrue result → IsLeastSolution (signature_of protocol.now) (lits.now ++ more.now) (con_of self.new) }
     {
         fill(protocol, self.masks.as_mut_slice(), lits, more)
+    }
+
+    /// Takes in what the literals say of each term alone: memberships, and that the terms of equalities and disequalities
+    /// have constructors of their sorts. False where that leaves nothing to a term.
+    pub fn gather(&mut self, protocol: &Protocol, lits: &[Lit]) -> bool
+        requires { All (λ lit. IsTrue (terms_fit (signature_of protocol.now) (length self.old) lit)) lits.now }
+        ensures made { length self.new ≡ length self.old }
+        ensures gathered { IsTrue result → AreGathered (signature_of protocol.now) lits.now self.new }
+        ensures none { result ≡ false → HasSolution (signature_of protocol.now) lits.now → ⊥ }
+    {
+        fill_domains(protocol, self.masks.as_mut_slice(), lits)
+    }
+
+    /// What is left to the term.
+    pub fn left(&self, term: Term) -> u64
+        requires { IsTrue (has_entry (length self.now) term) }
+        ensures { result ≡ slice_index self.now (number_of term) }
+    {
+        self.masks[terms::number(term)]
     }
 
     /// The least constructor that is left to the term: that of the least solution after `solve` was true, so 0 for a term

@@ -65,6 +65,7 @@ returns-clause-closure c =
     on_ok c.close.result (IsTableOf (map (constraint_of c.as_slice-terms.result.now) (lits ++ more)) c.close.new.self.table) (IsClosureOf (lits ++ more) (record { room = c.self.inside.room; names = c.name_all-2.new.names.items; closing = c.close.new.self }))
     (λ table. record {
       named = names.named;
+      distinct = names.distinct;
       nodes = c.close.ensures.nodes ∙ ap (λ (m : List Term). length m + 1) c.as_slice-terms.ensures.value;
       table = subst (λ (m : List Term). IsTableOf (map (constraint_of m) (lits ++ more)) c.close.new.self.table) c.as_slice-terms.ensures.value table;
     })

@@ -19,8 +19,8 @@ use Rattle.diff_close.proofs.scratch.DiffScratch.value.Goals as goal
 use mir.Val.{SFits}
 use mir.Syntax.{w64}
 
-pub returns-then-here-terms : goal.returns-then-here-terms
-returns-then-here-terms c lits is =
+pub returns-then-here-terms-clause-chosen : goal.returns-then-here-terms-clause-chosen
+returns-then-here-terms-clause-chosen c lits is =
     let s : Scratch = c.args.self.now in
     let terms_are : c.as_slice-terms.result.now ≡ s.names = c.as_slice-terms.ensures.value ∙ ap (λ (x : Scratch). x.names) c.self.view_is in
     let cs : List Constraint = map (constraint_of s.names) lits in
@@ -39,8 +39,8 @@ returns-then-here-terms c lits is =
       difference = omega (arith, ints, c.least_sum-zero.ensures.at_most, c.least_sum-zero.ensures.at_least);
     }
 
-pub returns : goal.returns
-returns c lits is =
+pub returns-clause-chosen : goal.returns-clause-chosen
+returns-clause-chosen c lits is =
     let s : Scratch = c.args.self.now in
     let terms_are : c.as_slice-terms.result.now ≡ s.names = c.as_slice-terms.ensures.value ∙ ap (λ (x : Scratch). x.names) c.self.view_is in
     let cs : List Constraint = map (constraint_of s.names) lits in

@@ -1,0 +1,7 @@
+use Rattle.std.proofs.Common.{◌≡◌, take}
+use Rattle.std.specs.List.{flat_map}
+use Rattle.cub_names.specs.Lists.{value_names}
+use Rattle.cub_names.proofs.lists.values_of.Given as goal
+
+abbrev pub invariant-loop-decl : goal.invariant-loop-decl
+invariant-loop-decl l = l.found.items ≡ flat_map value_names (take l.decl-index l.decls)

@@ -1,0 +1,13 @@
+use Rattle.std.proofs.Common.{ℕ, List, Option, Some, ◌∙◌, ap, bytes_eq}
+use Rattle.std.specs.Prelude.{if◌then◌else◌}
+use Rattle.std.specs.Map.{lookup}
+use Rattle.cub_names.specs.Seen.{value_in}
+use Rattle.cub_names.proofs.MapNames.{inserted}
+use Rattle.cub_names.proofs.types.put.Goals as goal
+
+-- the map's own clause on its entries
+pub returns : goal.returns
+returns c = λ q.
+    ap (lookup (λ k. bytes_eq q k.items)) c.in_ok-insert.ensures.entries
+    ∙ inserted c.in_ok-key.key c.args.number q c.args.numbers.now.entries
+    ∙ ap (λ n. if bytes_eq n q then Some c.args.number else value_in c.args.numbers.now q) (c.in_ok-key.ensures.items ∙ c.as_slice.ensures)

@@ -1,0 +1,9 @@
+pub mod Checked
+pub mod Words
+pub mod Lists
+pub mod Meaning
+pub mod Declarations
+pub mod Seen
+pub mod Scope
+pub mod Sides
+pub mod Answers

@@ -1,0 +1,4 @@
+pub mod Mark
+pub mod Terms
+pub mod Printed
+pub mod Tokens

@@ -1,0 +1,5 @@
+pub mod Bridging
+pub mod Stages
+pub mod WayStages
+pub mod Assembly
+pub mod Pruning

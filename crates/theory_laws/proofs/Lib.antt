@@ -1,0 +1,10 @@
+pub mod Building
+pub mod Stating
+pub mod Meeting
+pub mod Parts
+pub mod Needs
+pub mod Combined
+pub mod Extending
+pub mod Domains
+pub mod Choosing
+pub mod Starting
