@@ -1,0 +1,4 @@
+pub mod Starts
+pub mod Parting
+pub mod Following
+pub mod Filling

@@ -1,0 +1,55 @@
+use Rattle.std.proofs.Common.{◌≡◌, ◌∙◌, sym, refl, ◌++◌, List, Bool, true, false}
+use Rattle.std.proofs.lemmas.Bool.{false≢true}
+use Rattle.cub_proto.specs.declared.literal.Lit.{Lit}
+use Rattle.cub_proto.specs.StateOf.{signature_of}
+use Rattle.theory_laws.specs.Fitting.{AreFitting}
+use Rattle.theory_laws.proofs.Parts.{all_proc, all_small}
+use Rattle.theory_laws.proofs.Meeting.{consistent_parts}
+use Rattle.theory.proofs.Parting.{both_fitting, fin_here, diff_here, finite_refuted, processes_refuted, integers_exact, refuted}
+use Rattle.theory.proofs.consistency.parts_extend.Goals as goal
+
+pub finite_extends-requires-clause-fit : goal.finite_extends-requires-clause-fit
+finite_extends-requires-clause-fit c = fin_here c.args.protocol.now c.args.width c.args.lits.now c.args.masks.now c.requires.size c.requires.fitting
+
+pub finite_extends-requires-clause-more_fit : goal.finite_extends-requires-clause-more_fit
+finite_extends-requires-clause-more_fit c = fin_here c.args.protocol.now c.args.width c.args.more.now c.args.masks.now c.requires.size c.requires.more_fitting
+
+pub returns-then-not-finite_extends-clause-exact : goal.returns-then-not-finite_extends-clause-exact
+returns-then-not-finite_extends-clause-exact c =
+    let whole : AreFitting c.args.protocol.now c.args.width (c.args.lits.now ++ c.args.more.now) = both_fitting c.args.protocol.now c.args.width c.args.lits.now c.args.more.now c.requires.fitting c.requires.more_fitting in
+    ((λ h. absurd (false≢true h)), (λ has. absurd (finite_refuted c.args.protocol.now c.args.width (c.args.lits.now ++ c.args.more.now) whole (refuted c.finite_extends.result _ c.if-not-finite_extends.true c.finite_extends.ensures.exact) has)))
+
+pub process_extends-requires-clause-fit : goal.process_extends-requires-clause-fit
+process_extends-requires-clause-fit c = all_proc c.args.protocol.now c.args.width c.args.lits.now c.requires.fitting
+
+pub process_extends-requires-clause-more_fit : goal.process_extends-requires-clause-more_fit
+process_extends-requires-clause-more_fit c = all_proc c.args.protocol.now c.args.width c.args.more.now c.requires.more_fitting
+
+pub returns-then-not-process_extends-clause-exact : goal.returns-then-not-process_extends-clause-exact
+returns-then-not-process_extends-clause-exact c =
+    let whole : AreFitting c.args.protocol.now c.args.width (c.args.lits.now ++ c.args.more.now) = both_fitting c.args.protocol.now c.args.width c.args.lits.now c.args.more.now c.requires.fitting c.requires.more_fitting in
+    ((λ h. absurd (false≢true h)), (λ has. absurd (processes_refuted c.args.protocol.now c.args.width (c.args.lits.now ++ c.args.more.now) whole (refuted c.process_extends.result _ c.if-not-process_extends.true c.process_extends.ensures.exact) has)))
+
+pub integer_extends-requires-clause-terms : goal.integer_extends-requires-clause-terms
+integer_extends-requires-clause-terms c =
+    let whole : AreFitting c.args.protocol.now c.args.width (c.args.lits.now ++ c.args.more.now) = both_fitting c.args.protocol.now c.args.width c.args.lits.now c.args.more.now c.requires.fitting c.requires.more_fitting in
+    diff_here c.args.protocol.now c.args.width (c.args.lits.now ++ c.args.more.now) c.args.integers.now.room c.requires.room whole
+
+pub integer_extends-requires-clause-bounds : goal.integer_extends-requires-clause-bounds
+integer_extends-requires-clause-bounds c =
+    let whole : AreFitting c.args.protocol.now c.args.width (c.args.lits.now ++ c.args.more.now) = both_fitting c.args.protocol.now c.args.width c.args.lits.now c.args.more.now c.requires.fitting c.requires.more_fitting in
+    all_small c.args.protocol.now c.args.width (c.args.lits.now ++ c.args.more.now) whole
+
+pub returns-clause-exact : goal.returns-clause-exact
+returns-clause-exact c =
+    let whole : AreFitting c.args.protocol.now c.args.width (c.args.lits.now ++ c.args.more.now) = both_fitting c.args.protocol.now c.args.width c.args.lits.now c.args.more.now c.requires.fitting c.requires.more_fitting in
+    integers_exact c.args.protocol.now c.args.width (c.args.lits.now ++ c.args.more.now) whole c.integer_extends.result (c.finite_extends.ensures.exact.0 c.if-not-finite_extends.false) (c.process_extends.ensures.exact.0 c.if-not-process_extends.false) c.integer_extends.ensures.exact
+
+pub finite_extends-requires-clause-solved : goal.finite_extends-requires-clause-solved
+finite_extends-requires-clause-solved c = (consistent_parts c.args.protocol.now c.args.width c.args.lits.now c.requires.fitting.fit c.requires.consistent).finite
+
+pub process_extends-requires-clause-solved : goal.process_extends-requires-clause-solved
+process_extends-requires-clause-solved c = (consistent_parts c.args.protocol.now c.args.width c.args.lits.now c.requires.fitting.fit c.requires.consistent).processes
+
+pub integer_extends-requires-clause-solved : goal.integer_extends-requires-clause-solved
+integer_extends-requires-clause-solved c = (consistent_parts c.args.protocol.now c.args.width c.args.lits.now c.requires.fitting.fit c.requires.consistent).integers

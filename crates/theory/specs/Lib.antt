@@ -1,0 +1,3 @@
+pub mod Theory
+pub mod Made
+pub mod Loaded
