@@ -1,4 +1,4 @@
--- What is asked for behind a first load that answered.
+-- What is asked for behind a first load that answered, and answers over a shelf that tells the same.
 use Rattle.std.proofs.Common.{◌≡◌, ℕ, suc, List, [], ◌∷◌, ◌++◌, take, Option, Some, None, refl, ap, ◌∙◌, arith, append_assoc}
 use Rattle.std.specs.Prelude.{option_map}
 use Rattle.io_edge.specs.Shelf.{with_name, AsksFor}

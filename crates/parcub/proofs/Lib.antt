@@ -1,3 +1,2 @@
 pub mod Asked
-pub mod Judging
-pub mod Answering
+pub mod Telling

@@ -1,4 +1,3 @@
-pub mod Words
-pub mod Trace
-pub mod Judge
+pub mod Files
+pub mod Replays
 pub mod Answer

@@ -4,23 +4,10 @@
 // The top call.
 mod top;
 
-// What the words ask for.
-mod words;
-
-// Protocols and traces, read plainly.
-mod cursor;
-mod declared_names;
-mod protocol_text;
-mod start_values;
-mod tokens;
-mod trace_text;
-mod updates;
-
-// The replay of a trace.
-mod judge;
-
-// What is written.
-mod answer;
+// Its parts: the texts of protocols, `print`, `replay`.
+mod files;
+mod prints;
+mod replays;
 #[cfg(test)]
 mod tests;
 

@@ -14,13 +14,14 @@ unsafe (x y) { A[x] = Crit && A[y] = Crit }
 transition enter (i) requires { A[i] = Idle } { A[i] := Crit }
 ";
 
-// A status with what is written, for a trace with these last lines, where the shelf and the sink fail at these calls.
+// A status with what is written for these words, where `p` is the protocol, `t` is a trace with these last lines, and the
+// shelf and the sink fail at these calls.
 fn answer_is(
     rt: &impl Abort,
     alloc: Global,
+    words: &[&str],
     lines: &str,
-    loads: &[u64],
-    puts: &[u64],
+    failing: (&[u64], &[u64]),
     status: u8,
     written: &str,
 ) -> Result<(), Fail> {
@@ -32,44 +33,107 @@ fn answer_is(
     if !files.has("t") {
         files.add("t", trace.as_str().as_bytes())?;
     }
+    let (loads, puts) = failing;
     let mut shelf = MemShelf::new(alloc, files, Items::from_slice(alloc, loads)?);
-    let mut out = MemSink::new(alloc, 64, 4, Items::from_slice(alloc, puts)?)?;
-    let words = ["replay", "p", "t"];
-    assert_eq!(rt;
-        run_plain(alloc, words.as_slice(), &mut shelf, &mut out),
-        status
-    );
+    let mut out = MemSink::new(alloc, 512, 64, Items::from_slice(alloc, puts)?)?;
+    assert_eq!(rt; run_plain(alloc, words, &mut shelf, &mut out), status);
     assert_eq!(rt; out.bytes(), written.as_bytes());
     Ok(())
 }
 
+const REPLAY: [&str; 3] = ["replay", "p", "t"];
+
 #[test]
 fn a_trace_of_two_steps(rt: HostRuntime) -> Result<(), Fail> {
-    let whole = "step enter(#1)\nunsafe 1 (#1 #2)\n";
-    let none = [].as_slice();
     let alloc = rt.alloc();
+    let none = ([].as_slice(), [].as_slice());
+    let whole = "step enter(#1)\nunsafe 1 (#1 #2)\n";
+    let words = REPLAY.as_slice();
     answer_is(
         &rt,
         alloc,
+        words,
         whole,
-        none,
         none,
         0,
         "REPLAYS steps 2 crashes 0\n",
     )?;
     let again = "step enter(#2)\nunsafe 1 (#1 #2)\n";
-    answer_is(&rt, alloc, again, none, none, 9, "REFUSED event 2: guard\n")?;
-    let same = "step enter(#1)\nunsafe 1 (#1 #1)\n";
-    answer_is(&rt, alloc, same, none, none, 9, "REFUSED unsafe\n")?;
     answer_is(
         &rt,
         alloc,
-        "crash #1\n",
-        none,
+        words,
+        again,
         none,
         9,
-        "REFUSED plain at line 7\n",
+        "REFUSED event 2: guard\n",
     )?;
-    answer_is(&rt, alloc, whole, [0].as_slice(), none, 6, "")?;
-    answer_is(&rt, alloc, whole, none, [1].as_slice(), 7, "REPL")
+    let same = "step enter(#1)\nunsafe 1 (#1 #1)\n";
+    answer_is(&rt, alloc, words, same, none, 9, "REFUSED unsafe\n")?;
+    answer_is(
+        &rt,
+        alloc,
+        words,
+        whole,
+        ([0].as_slice(), [].as_slice()),
+        6,
+        "",
+    )?;
+    answer_is(
+        &rt,
+        alloc,
+        words,
+        whole,
+        ([].as_slice(), [0].as_slice()),
+        7,
+        "",
+    )
+}
+
+#[test]
+fn words(rt: HostRuntime) -> Result<(), Fail> {
+    let alloc = rt.alloc();
+    let none = ([].as_slice(), [].as_slice());
+    answer_is(&rt, alloc, [].as_slice(), "", none, 5, "WORDS U1 at 1\n")?;
+    answer_is(
+        &rt,
+        alloc,
+        ["check", "p"].as_slice(),
+        "",
+        none,
+        5,
+        "WORDS U2 at 1\n",
+    )?;
+    answer_is(
+        &rt,
+        alloc,
+        ["print", "p", "q"].as_slice(),
+        "",
+        none,
+        5,
+        "WORDS U4 at 3\n",
+    )
+}
+
+const PRINTED: &str = "type t = Idle | Crit
+array A[proc] : t
+init (_1) { A[_1] = Idle }
+unsafe (_1 _2) { A[_1] = Crit && A[_2] = Crit }
+transition enter (_1) requires { A[_1] = Idle } { A[_0] := case | _1 = _0 : Crit | _ : A[_0]; }
+";
+
+#[test]
+fn a_canonical_text(rt: HostRuntime) -> Result<(), Fail> {
+    let alloc = rt.alloc();
+    let none = ([].as_slice(), [].as_slice());
+    answer_is(&rt, alloc, ["print", "p"].as_slice(), "", none, 0, PRINTED)?;
+    answer_is(
+        &rt,
+        alloc,
+        ["print", "t"].as_slice(),
+        "",
+        none,
+        4,
+        "REFUSED L1 at 4:3\n",
+    )
 }

@@ -1,0 +1,11 @@
+pub mod Fronts
+pub mod Layers
+pub mod Deeper
+pub mod FirstOfAll
+pub mod Told
+pub mod SidesTold
+pub mod FormFolds
+pub mod FormsTold
+pub mod RestTold
+pub mod OneReading
+pub mod Resolved

@@ -1,0 +1,7 @@
+pub mod Formulas
+pub mod Guards
+pub mod Bodies
+pub mod Writes
+pub mod Joined
+pub mod Typing
+pub mod Laws
