@@ -8,3 +8,5 @@ pub mod Cover
 pub mod Inductive
 pub mod Crashes
 pub mod Step
+pub mod Starts
+pub mod Goals

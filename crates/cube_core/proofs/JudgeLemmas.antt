@@ -10,7 +10,7 @@ use Rattle.log_form.specs.declared.event.Added.{Added}
 use Rattle.log_form.specs.declared.numbered.Numbered.{Numbered}
 use Rattle.log_form.specs.Pieces.{PieceRelation, IsFit, StayFit, widest, greatest_asked, widest_expanded, greatest_expanded, step_bound}
 use Rattle.log_form.specs.Forms.{IsForm}
-use Rattle.log_form.specs.Starts.{MeetsStart}
+use Rattle.cub_cube.specs.Starts.{IsStartCube}
 use Rattle.log_form.specs.Links.{IsFirstUnder}
 use Rattle.log_form.specs.Legal.{IsAdded, Adds}
 use Rattle.log_form.proofs.Covered.{covered_left, covered_right, covered_cases}
@@ -84,14 +84,14 @@ more_cubes : (cubes : List Cube) (picks new : List Pick) (k : Pick) → new ≡ 
 more_cubes cubes picks new k is = ap (λ ks. cubes ++ pick_cubes ks) is ∙ (ap (λ cs. cubes ++ cs) (map_push (λ (j : Pick). j.cube) picks k) ∙ sym (append_assoc cubes (pick_cubes picks) (k.cube ∷ [])))
 
 pub picks_one : (p : Protocol) (cubes : List Cube) (list : List Numbered) (i : ℕ) (x : Numbered) (picks new : List Pick) (k : Pick) → i < length list → x ≡ get_or list i x
-    → (IsCovered p (cubes ++ pick_cubes picks) x.cube → ⊥) → IsPickOf p x k → (MeetsStart p k.cube → ⊥) → new ≡ picks ++ k ∷ [] → Completes p cubes list i picks → Completes p cubes list (i + 1) new
+    → (IsCovered p (cubes ++ pick_cubes picks) x.cube → ⊥) → IsPickOf p x k → (IsStartCube p k.cube → ⊥) → new ≡ picks ++ k ∷ [] → Completes p cubes list i picks → Completes p cubes list (i + 1) new
 picks_one p cubes list i x picks new k below is free of unstarted pushed so rest h =
     subst (Adds p cubes list) (more_picks picks new k rest pushed)
     (so (added_of k ∷ rest) (subst (λ ys. Adds p (cubes ++ pick_cubes picks) ys (added_of k ∷ rest)) (sym (drop_more list i x below ∙ ap (λ y. y ∷ drop (i + 1) list) (sym is)))
     (inr (record { uncovered = free; numbered = of.number; form = of.form }, inr (unstarted, subst (λ cs. Adds p cs (drop (i + 1) list) rest) (more_cubes cubes picks new k pushed) h)))))
 
 pub picks_start : (p : Protocol) (cubes : List Cube) (list : List Numbered) (i : ℕ) (x : Numbered) (picks new : List Pick) (k : Pick) → i < length list → x ≡ get_or list i x
-    → (IsCovered p (cubes ++ pick_cubes picks) x.cube → ⊥) → IsPickOf p x k → MeetsStart p k.cube → new ≡ picks ++ k ∷ [] → Completes p cubes list i picks → Adds p cubes list (map added_of new)
+    → (IsCovered p (cubes ++ pick_cubes picks) x.cube → ⊥) → IsPickOf p x k → IsStartCube p k.cube → new ≡ picks ++ k ∷ [] → Completes p cubes list i picks → Adds p cubes list (map added_of new)
 picks_start p cubes list i x picks new k below is free of starts pushed so =
     subst (Adds p cubes list) (more_picks picks new k [] pushed ∙ append-nil (map added_of new))
     (so (added_of k ∷ []) (subst (λ ys. Adds p (cubes ++ pick_cubes picks) ys (added_of k ∷ [])) (sym (drop_more list i x below ∙ ap (λ y. y ∷ drop (i + 1) list) (sym is)))

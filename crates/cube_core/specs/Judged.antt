@@ -5,7 +5,7 @@ use Rattle.cub_cube.specs.declared.cube.Cube.{Cube}
 use Rattle.log_form.specs.declared.event.Added.{Added}
 use Rattle.log_form.specs.declared.numbered.Numbered.{Numbered}
 use Rattle.log_form.specs.Pieces.{PieceRelation}
-use Rattle.log_form.specs.Starts.{MeetsStart}
+use Rattle.cub_cube.specs.Starts.{IsStartCube}
 use Rattle.log_form.specs.Links.{IsFirstUnder}
 use Rattle.log_form.specs.Legal.{Adds}
 use Rattle.cube_core.specs.Pieces.{AreItsPieces}
@@ -26,7 +26,7 @@ AreUnder p cubes from c (u ∷ us) = IsFirstUnder p cubes from (length cubes) c 
 
 -- the pick tells whether a start state meets it, and which cubes it covers
 pub record IsExact (p : Protocol) (cubes : List Cube) (pick : Pick) : Type 0 where
-  pub starts : IsTrue pick.starts ↔ MeetsStart p pick.cube
+  pub starts : IsTrue pick.starts ↔ IsStartCube p pick.cube
   pub under : AreUnder p cubes 0 pick.cube pick.under
 
 -- the picks of a list of numbered cubes: those that an event would add to a log of these cubes

@@ -5,7 +5,7 @@ ghost use Rattle.std.specs.Prelude.{◌↔◌, IsTrue, IfOk};
 ghost use Rattle.cub_cube.specs.Meaning.{IsConsistent};
 ghost use Rattle.cub_cube.specs.Cover.{DoesCover};
 ghost use Rattle.log_form.specs.Pieces.{IsAskable, IsExpandable};
-ghost use Rattle.log_form.specs.Starts.{MeetsStart};
+ghost use Rattle.cub_cube.specs.Starts.{IsStartCube};
 ghost use Rattle.log_form.specs.Forms.{IsForm};
 ghost use Rattle.cube_core.specs.Pieces.{AreItsPieces};
 
@@ -29,7 +29,7 @@ pub trait Decisions: MadeFor {
     fn meets_start(&mut self, protocol: &Protocol, cube: &Cube) -> bool
         requires made { Self.made_for self.old protocol.now }
         requires fit { IsAskable protocol.now cube.now }
-        ensures value { IsTrue result ↔ MeetsStart protocol.now cube.now }
+        ensures value { IsTrue result ↔ IsStartCube protocol.now cube.now }
         ensures made { Self.made_for self.new protocol.now };
 
     /// Whether the first cube covers the second.

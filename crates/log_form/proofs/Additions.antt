@@ -9,7 +9,7 @@ use Rattle.cub_cube.specs.Cover.{DoesCover, IsCovered}
 use Rattle.log_form.specs.declared.event.Added.{Added}
 use Rattle.log_form.specs.declared.numbered.Numbered.{Numbered}
 use Rattle.log_form.specs.Forms.{IsForm}
-use Rattle.log_form.specs.Starts.{MeetsStart}
+use Rattle.cub_cube.specs.Starts.{IsStartCube}
 use Rattle.log_form.specs.Links.{cube_at}
 use Rattle.log_form.specs.Log.{added_cubes}
 use Rattle.log_form.specs.Legal.{IsAdded, Adds, EndsBad}
@@ -33,7 +33,7 @@ adds_fresh p cubes (piece ∷ pieces) (a ∷ added) (inr (is_added, inr (unstart
     (subst (λ xs. IsCovered p xs (cube_at (added_cubes added) k)) (sym (append_assoc cubes (a.cube ∷ []) (take k (added_cubes added)))) covered)
 
 -- the last added cube of a list that ends bad
-pub bad_last : (p : Protocol) (added : List Added) → EndsBad p added → (k : ℕ) × (length added ≡ suc k) × MeetsStart p (cube_at (added_cubes added) k)
+pub bad_last : (p : Protocol) (added : List Added) → EndsBad p added → (k : ℕ) × (length added ≡ suc k) × IsStartCube p (cube_at (added_cubes added) k)
 bad_last p [] h = absurd h
 bad_last p (a ∷ []) h = (0, refl, h)
 bad_last p (a ∷ b ∷ added) h = let (k, size, meets) = bad_last p (b ∷ added) h in (suc k, omega arith, meets)
@@ -43,7 +43,7 @@ bad_more p a [] h = absurd h
 bad_more p a (b ∷ added) h = h
 
 pub adds_start : (p : Protocol) (cubes : List Cube) (pieces : List Numbered) (added : List Added) → Adds p cubes pieces added
-    → (k : ℕ) → k < length added → MeetsStart p (cube_at (added_cubes added) k) → (length added ≡ suc k) × EndsBad p added
+    → (k : ℕ) → k < length added → IsStartCube p (cube_at (added_cubes added) k) → (length added ≡ suc k) × EndsBad p added
 adds_start p cubes [] added h k below meets = let none : length added ≡ 0 = ap length h in absurd (omega arith)
 adds_start p cubes (piece ∷ pieces) [] h k below meets = absurd (omega arith)
 adds_start p cubes (piece ∷ pieces) (a ∷ added) (inl (passed, rest)) k below meets = adds_start p cubes pieces (a ∷ added) rest k below meets

@@ -13,7 +13,7 @@ use Rattle.cub_cube.proofs.Covering.{covers_itself, covers_further, covering_mee
 use Rattle.log_form.specs.declared.node.Node.{Node}
 use Rattle.log_form.specs.declared.event.Added.{Added}
 use Rattle.log_form.specs.Forms.{IsForm}
-use Rattle.log_form.specs.Starts.{MeetsStart}
+use Rattle.cub_cube.specs.Starts.{IsStartCube}
 use Rattle.log_form.specs.Links.{no_cube, cube_at}
 use Rattle.log_form.specs.Log.{no_node, node_at, cubes_of, added_cubes}
 
@@ -24,8 +24,8 @@ itself p c = (identity c.width, covers_itself p c)
 pub further : (p : Protocol) (d c b : Cube) → DoesCover p d c → DoesCover p c b → DoesCover p d b
 further p d c b (q, first) (r, second) = (along q r, covers_further p d c b q r first second)
 
-pub start_up : (p : Protocol) (d c : Cube) → DoesCover p d c → MeetsStart p c → MeetsStart p d
-start_up p d c (r, covers) meets = record { state = meets.state; start = meets.start; meets = covering_meets p d c r covers meets.state meets.start.state meets.meets }
+pub start_up : (p : Protocol) (d c : Cube) → DoesCover p d c → IsStartCube p c → IsStartCube p d
+start_up p d c (r, covers) (s, start, meets) = (s, start, covering_meets p d c r covers s start.state meets)
 
 -- what covers an added cube covers its piece, and the other way round
 pub form_covers : (p : Protocol) (piece : Cube) (places : List ℕ) (c d : Cube) → IsForm p piece places c → DoesCover p d c → DoesCover p d piece

@@ -13,7 +13,7 @@ use Rattle.cub_cube.proofs.Form.{fold_fits, form_is_normal}
 use Rattle.cub_cube.proofs.Bounds.{fold_bounded}
 use Rattle.log_form.specs.declared.node.Origin.{Origin}
 use Rattle.log_form.specs.declared.node.Node.{Node}
-use Rattle.log_form.specs.Numbering.{goal_cube}
+use Rattle.cub_cube.specs.Goals.{goal_cube}
 use Rattle.log_form.specs.Pieces.{PieceRelation, IsFit, ArePossible, StayFit, widest, widest_expanded, greatest_expanded}
 use Rattle.log_form.specs.Forms.{IsForm}
 use Rattle.log_form.specs.Log.{LogValue, node_at}

@@ -10,9 +10,9 @@ use Rattle.log_form.specs.declared.node.Fate.{Fate}
 use Rattle.log_form.specs.declared.node.Fate.TheVariants.{Waiting, Done, Covered}
 use Rattle.log_form.specs.declared.event.Mark.{Mark}
 use Rattle.log_form.specs.declared.verdicts.LogVerdict.TheVariants.{UnknownWidth, Safe}
-use Rattle.log_form.specs.Numbering.{goal_cube}
+use Rattle.cub_cube.specs.Goals.{goal_cube}
 use Rattle.log_form.specs.Pieces.{PieceRelation}
-use Rattle.log_form.specs.Starts.{MeetsStart}
+use Rattle.cub_cube.specs.Starts.{IsStartCube}
 use Rattle.log_form.specs.Fates.{is_live, is_waiting}
 use Rattle.log_form.specs.Log.{LogValue, node_at, cubes_of, live_cubes}
 use Rattle.log_form.specs.Legal.{IsLegalLog}
@@ -86,10 +86,10 @@ passes P log legal says = record {
     safe : IsSafeLog log
     safe = safe_is log says
 
-    not_started : (c : Cube) → IsLiveCube log.nodes c → MeetsStart log.protocol c → ⊥
+    not_started : (c : Cube) → IsLiveCube log.nodes c → IsStartCube log.protocol c → ⊥
     not_started c l meets =
         let going = safe.going in
-        let wrong = woven.start l.number l.inside (subst (MeetsStart log.protocol) (sym l.is) meets) in cc
+        let wrong = woven.start l.number l.inside (subst (IsStartCube log.protocol) (sym l.is) meets) in cc
 
     treated : (c : Cube) → IsLiveCube log.nodes c → AreCovered P log.protocol (live_cubes log.nodes) c
     treated c l =

@@ -17,7 +17,8 @@ use Rattle.cub_cube.proofs.KeptLemmas.{kept_from, kept_has, kept_unique}
 use Rattle.cub_cube.proofs.Form.{fold_true}
 use Rattle.cub_cube.proofs.Bounds.{same_back, same_meets}
 use Rattle.log_form.specs.declared.numbered.Numbered.{Numbered}
-use Rattle.log_form.specs.Numbering.{with_number, numbered, goal_cube, AreRoots}
+use Rattle.log_form.specs.Numbering.{with_number, numbered, AreRoots}
+use Rattle.cub_cube.specs.Goals.{goal_cube}
 
 -- a numbered cube of a list is the cube at that place
 pub number_at : (n : ℕ) (cubes : List Cube) (x : Numbered) → Contains (map_from with_number n cubes) x → (k : ℕ) × (x.number ≡ n + k) × (slice_get cubes k ≡ Some x.cube)

@@ -8,7 +8,7 @@ use Rattle.log_form.specs.declared.event.Mark.{Mark}
 use Rattle.log_form.specs.declared.event.Added.{Added}
 use Rattle.log_form.specs.declared.numbered.Numbered.{Numbered}
 use Rattle.log_form.specs.Pieces.{PieceRelation}
-use Rattle.log_form.specs.Starts.{MeetsStart}
+use Rattle.cub_cube.specs.Starts.{IsStartCube}
 use Rattle.log_form.specs.Log.{LogValue, cubes_of}
 use Rattle.log_form.specs.Legal.{IsAdded, Adds, IsLegalLog}
 use Rattle.log_form.specs.Stale.{KeepsUncovered}
@@ -72,7 +72,7 @@ pass_over : (p : Protocol) (cubes : List Cube) (piece : Numbered) (pieces : List
 pass_over p cubes piece pieces [] covered rest = (covered, rest)
 pass_over p cubes piece pieces (a ∷ kept) covered rest = inl (covered, rest)
 
-module _ (p : Protocol) (since : List Cube) (unstarted : (d : Cube) → IsCovered p since d → MeetsStart p d → ⊥) where
+module _ (p : Protocol) (since : List Cube) (unstarted : (d : Cube) → IsCovered p since d → IsStartCube p d → ⊥) where
   -- a pick that no gained cube covers is still added
   still_added : (old now : List Cube) (piece : Numbered) (a : Added) → IsLater p old since now → IsAdded p old piece a → (IsCovered p since a.cube → ⊥) → IsAdded p now piece a
   still_added old now piece a later added free = record {
@@ -119,12 +119,12 @@ stale_legal P log legal going seen pieces picks kept h keeps =
     woven : IsWoven P log
     woven = legal_woven P log legal
 
-    at_log : (d : Cube) → IsCovered log.protocol (cubes_of log.nodes) d → MeetsStart log.protocol d → ⊥
+    at_log : (d : Cube) → IsCovered log.protocol (cubes_of log.nodes) d → IsStartCube log.protocol d → ⊥
     at_log d covered meets =
         let (i, below, covers) = at_covered log.protocol (cubes_of log.nodes) d covered in
         let n = length-cubes_of log.nodes in
-        let wrong = woven.start i (omega arith) (subst (MeetsStart log.protocol) (cube_at-cubes_of log.nodes i) (start_up log.protocol _ d covers meets)) in
+        let wrong = woven.start i (omega arith) (subst (IsStartCube log.protocol) (cube_at-cubes_of log.nodes i) (start_up log.protocol _ d covers meets)) in
         cc
 
-    unstarted : (d : Cube) → IsCovered log.protocol (drop seen (cubes_of log.nodes)) d → MeetsStart log.protocol d → ⊥
+    unstarted : (d : Cube) → IsCovered log.protocol (drop seen (cubes_of log.nodes)) d → IsStartCube log.protocol d → ⊥
     unstarted d covered = at_log d ((parts_later log.protocol (cubes_of log.nodes) seen).gained d covered)

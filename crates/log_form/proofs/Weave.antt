@@ -18,10 +18,11 @@ use Rattle.log_form.specs.declared.event.Mark.{Mark}
 use Rattle.log_form.specs.declared.event.Added.{Added}
 use Rattle.log_form.specs.declared.event.LogEvent.{LogEvent}
 use Rattle.log_form.specs.declared.numbered.Numbered.{Numbered}
-use Rattle.log_form.specs.Numbering.{with_number, goal_cube, AreRoots}
+use Rattle.log_form.specs.Numbering.{with_number, AreRoots}
+use Rattle.cub_cube.specs.Goals.{goal_cube}
 use Rattle.log_form.specs.Pieces.{PieceRelation}
 use Rattle.log_form.specs.Forms.{IsForm}
-use Rattle.log_form.specs.Starts.{MeetsStart}
+use Rattle.cub_cube.specs.Starts.{IsStartCube}
 use Rattle.log_form.specs.Links.{cube_at, IsFirstCover}
 use Rattle.log_form.specs.Fates.{link_of, fate_after}
 use Rattle.log_form.specs.Log.{LogValue, no_log, node_at, cubes_of, added_cubes, new_node, origin_of}
@@ -45,8 +46,8 @@ pub record IsWoven (P : PieceRelation) (log : LogValue) : Type 0 where
   pub links : (i : ℕ) → i < length log.nodes
       → IsFirstCover log.protocol (cubes_of log.nodes) (i + 1) (length log.nodes) (node_at log.nodes i).cube (link_of (node_at log.nodes i).fate)
   pub fresh : (i j : ℕ) → i < j → j < length log.nodes → DoesCover log.protocol (node_at log.nodes i).cube (node_at log.nodes j).cube → ⊥
-  pub start : (i : ℕ) → i < length log.nodes → MeetsStart log.protocol (node_at log.nodes i).cube → log.mark ≡ Mark.Bad i
-  pub bad : (n : ℕ) → log.mark ≡ Mark.Bad n → (n < length log.nodes) × MeetsStart log.protocol (node_at log.nodes n).cube
+  pub start : (i : ℕ) → i < length log.nodes → IsStartCube log.protocol (node_at log.nodes i).cube → log.mark ≡ Mark.Bad i
+  pub bad : (n : ℕ) → log.mark ≡ Mark.Bad n → (n < length log.nodes) × IsStartCube log.protocol (node_at log.nodes n).cube
   pub full : (from : Option ℕ) (needed : ℕ) → log.mark ≡ Mark.Full from needed → log.budget.cubes < length log.nodes + needed
   pub treated : (i : ℕ) → i < length log.nodes → (node_at log.nodes i).fate ≡ Fate.Done
       → AreCovered P log.protocol (cubes_of log.nodes) (node_at log.nodes i).cube
@@ -179,29 +180,29 @@ module _ (P : PieceRelation) (log : LogValue) (event : LogEvent) (list : List Ad
           adds_fresh log.protocol (cubes_of log.nodes) pieces list adds k within
           (subst (λ c. IsCovered log.protocol front c) (new_cube log event list after grows j k is within) (subst (λ cs. IsCovered log.protocol cs (node_at after.nodes j).cube) is_front covered))
 
-  grown_start : (i : ℕ) → i < length after.nodes → MeetsStart log.protocol (node_at after.nodes i).cube → after.mark ≡ Mark.Bad i
+  grown_start : (i : ℕ) → i < length after.nodes → IsStartCube log.protocol (node_at after.nodes i).cube → after.mark ≡ Mark.Bad i
   grown_start i below meets = by (place i below)
     where
       by : (i < length log.nodes) ⊎ ((k : ℕ) × (i ≡ length log.nodes + k) × (k < length list)) → after.mark ≡ Mark.Bad i
-      by (inl old) = let wrong = woven.start i old (subst (MeetsStart log.protocol) (old_cube log event list after grows i old) meets) in cc
+      by (inl old) = let wrong = woven.start i old (subst (IsStartCube log.protocol) (old_cube log event list after grows i old) meets) in cc
       by (inr (k, is, within)) =
-          by_mark (adds_start log.protocol (cubes_of log.nodes) pieces list adds k within (subst (MeetsStart log.protocol) (new_cube log event list after grows i k is within) meets)) grows.mark
+          by_mark (adds_start log.protocol (cubes_of log.nodes) pieces list adds k within (subst (IsStartCube log.protocol) (new_cube log event list after grows i k is within) meets)) grows.mark
         where
           by_mark : (length list ≡ suc k) × EndsBad log.protocol list
               → (EndsBad log.protocol list × (after.mark ≡ Mark.Bad (length log.nodes + length list - 1))) ⊎ ((EndsBad log.protocol list → ⊥) × (after.mark ≡ Mark.Going)) → after.mark ≡ Mark.Bad i
           by_mark (size, ends) (inl (bad, mark)) = mark ∙ ap Mark.Bad (omega arith)
           by_mark (size, ends) (inr (good, mark)) = absurd (good ends)
 
-  grown_bad : (n : ℕ) → after.mark ≡ Mark.Bad n → (n < length after.nodes) × MeetsStart log.protocol (node_at after.nodes n).cube
+  grown_bad : (n : ℕ) → after.mark ≡ Mark.Bad n → (n < length after.nodes) × IsStartCube log.protocol (node_at after.nodes n).cube
   grown_bad n is = by grows.mark
     where
       by : (EndsBad log.protocol list × (after.mark ≡ Mark.Bad (length log.nodes + length list - 1))) ⊎ ((EndsBad log.protocol list → ⊥) × (after.mark ≡ Mark.Going))
-          → (n < length after.nodes) × MeetsStart log.protocol (node_at after.nodes n).cube
+          → (n < length after.nodes) × IsStartCube log.protocol (node_at after.nodes n).cube
       by (inl (ends, mark)) =
           let (k, size, meets) = bad_last log.protocol list ends in
           let same : n ≡ length log.nodes + length list - 1 = cc in
           let m = grows.count in
-          (omega arith, subst (MeetsStart log.protocol) (sym (new_cube log event list after grows n k (omega arith) (omega arith))) meets)
+          (omega arith, subst (IsStartCube log.protocol) (sym (new_cube log event list after grows n k (omega arith) (omega arith))) meets)
       by (inr (good, mark)) = cc
 
   ends_good : after.mark ≡ Mark.Going → EndsBad log.protocol list → ⊥

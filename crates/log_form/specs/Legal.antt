@@ -12,7 +12,7 @@ use Rattle.log_form.specs.declared.numbered.Numbered.{Numbered}
 use Rattle.log_form.specs.Numbering.{numbered, AreRoots}
 use Rattle.log_form.specs.Pieces.{PieceRelation}
 use Rattle.log_form.specs.Forms.{IsForm}
-use Rattle.log_form.specs.Starts.{MeetsStart}
+use Rattle.cub_cube.specs.Starts.{IsStartCube}
 use Rattle.log_form.specs.Links.{Link, IsFirstCover}
 use Rattle.log_form.specs.Fates.{fate_after}
 use Rattle.log_form.specs.Log.{LogValue, no_log, node_at, cubes_of, new_nodes}
@@ -31,12 +31,12 @@ Adds p cubes (piece ∷ pieces) [] = IsCovered p cubes piece.cube × Adds p cube
 Adds p cubes (piece ∷ pieces) (a ∷ added) =
     (IsCovered p cubes piece.cube × Adds p cubes pieces (a ∷ added))
     ⊎ (IsAdded p cubes piece a
-    × ((MeetsStart p a.cube × (added ≡ [])) ⊎ ((MeetsStart p a.cube → ⊥) × Adds p (cubes ++ a.cube ∷ []) pieces added)))
+    × ((IsStartCube p a.cube × (added ≡ [])) ⊎ ((IsStartCube p a.cube → ⊥) × Adds p (cubes ++ a.cube ∷ []) pieces added)))
 
 -- the last added cube meets a start state
 abbrev pub EndsBad : Protocol → List Added → Type 0
 EndsBad p [] = ⊥
-EndsBad p (a ∷ []) = MeetsStart p a.cube
+EndsBad p (a ∷ []) = IsStartCube p a.cube
 EndsBad p (a ∷ b ∷ added) = EndsBad p (b ∷ added)
 
 -- a node that may be expanded, once the roots are there: it waits, and its cube is within the width

@@ -1,7 +1,6 @@
 pub mod Numbering
 pub mod Pieces
 pub mod Forms
-pub mod Starts
 pub mod Links
 pub mod Fates
 pub mod Log

@@ -6,7 +6,7 @@ use Rattle.cub_cube.specs.declared.cube.Cube.{Cube}
 use Rattle.cub_cube.specs.Meaning.{IsConsistent}
 use Rattle.log_form.specs.declared.node.Origin.{Origin}
 use Rattle.log_form.specs.declared.node.Node.{Node}
-use Rattle.log_form.specs.Numbering.{goal_cube}
+use Rattle.cub_cube.specs.Goals.{goal_cube}
 use Rattle.log_form.specs.Pieces.{PieceRelation}
 use Rattle.log_form.specs.Forms.{IsForm}
 use Rattle.log_form.specs.Log.{LogValue, node_at}

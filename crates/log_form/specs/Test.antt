@@ -5,9 +5,9 @@ use Rattle.cub_proto.specs.declared.protocol.Protocol.{Protocol}
 use Rattle.cub_cube.specs.declared.cube.Cube.{Cube}
 use Rattle.cub_cube.specs.Meaning.{IsConsistent}
 use Rattle.cub_cube.specs.Cover.{IsCovered}
-use Rattle.log_form.specs.Numbering.{goal_cube}
+use Rattle.cub_cube.specs.Goals.{goal_cube}
 use Rattle.log_form.specs.Pieces.{PieceRelation}
-use Rattle.log_form.specs.Starts.{MeetsStart}
+use Rattle.cub_cube.specs.Starts.{IsStartCube}
 
 -- the cube has a list of pieces, and one cube covers each of them
 pub record AreCovered (P : PieceRelation) (p : Protocol) (cubes : List Cube) (c : Cube) : Type 0 where
@@ -16,6 +16,6 @@ pub record AreCovered (P : PieceRelation) (p : Protocol) (cubes : List Cube) (c 
   pub covered : (x : Cube) → Contains pieces x → IsCovered p cubes x
 
 pub record PassesTest (P : PieceRelation) (p : Protocol) (cubes : List Cube) : Type 0 where
-  pub start : (c : Cube) → Contains cubes c → MeetsStart p c → ⊥
+  pub start : (c : Cube) → Contains cubes c → IsStartCube p c → ⊥
   pub goals : (g : Goal) → Contains p.goals g → IsConsistent p g.width g.lits → IsCovered p cubes (goal_cube p g)
   pub pieces : (c : Cube) → Contains cubes c → AreCovered P p cubes c

@@ -6,7 +6,7 @@ ghost use Rattle.cub_cube.specs.Cover.{DoesCover, CoversLeast};
 ghost use Rattle.log_form.specs.declared.node.Fate.{Fate};
 ghost use Rattle.log_form.specs.declared.event.Mark.{Mark};
 ghost use Rattle.log_form.specs.Pieces.{IsFit, widest, greatest_expanded};
-ghost use Rattle.log_form.specs.Starts.{MeetsStart};
+ghost use Rattle.cub_cube.specs.Starts.{IsStartCube};
 ghost use Rattle.log_form.specs.Links.{IsFirstCover};
 ghost use Rattle.log_form.specs.Fates.{is_live, link_of};
 ghost use Rattle.log_form.specs.Log.{LogValue, node_at, cubes_of};
@@ -44,7 +44,7 @@ pub fn live_nodes_stay_apart<M: PreImages>()
 
 /// A start state meets a node exactly where the log is bad with it; so none does while the log may go on.
 pub fn start_states_meet_the_bad_node<M: PreImages>()
-    ensures meets { (log : LogValue) (i : ℕ) → IsLegalLog M.pieces log → i < length log.nodes → MeetsStart log.protocol (node_at log.nodes i).cube ↔ (log.mark ≡ Mark.Bad i) }
+    ensures meets { (log : LogValue) (i : ℕ) → IsLegalLog M.pieces log → i < length log.nodes → IsStartCube log.protocol (node_at log.nodes i).cube ↔ (log.mark ≡ Mark.Bad i) }
     ensures inside { (log : LogValue) (i : ℕ) → IsLegalLog M.pieces log → log.mark ≡ Mark.Bad i → i < length log.nodes }
 {}
 

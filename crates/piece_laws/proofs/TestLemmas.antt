@@ -24,7 +24,8 @@ use Rattle.cub_cube.proofs.Bounds.{same_meets}
 use Rattle.cub_cube.proofs.Form.{fold_true}
 use Rattle.updates.proofs.Fitting.{conjunction_literals}
 use Rattle.piece_choices.specs.Pieces.{candidates, IsPossible, ArePieces}
-use Rattle.piece_laws.specs.Test.{goal_cube, PassesTest, CoversAt, PassesLines}
+use Rattle.cub_cube.specs.Goals.{goal_cube}
+use Rattle.piece_laws.specs.Test.{PassesTest, CoversAt, PassesLines}
 use Rattle.piece_laws.proofs.Predecessors.{found}
 
 -- a state that meets what is covered meets a cube of the list
@@ -44,7 +45,7 @@ goal_meets p g s inside state meets =
 
 pub test_inductive : (p : Protocol) (cubes : List Cube) → ((c : Cube) → Contains cubes c → IsTrue (list_all (literal_fits (signature_of p) c.width) c.lits)) → PassesTest p cubes → IsInductive p cubes
 test_inductive p cubes fits passes = record {
-  start = λ s start meets. passes.start meets.0 meets.1 s start meets.2;
+  start = λ s start meets. passes.start meets.0 meets.1 (s, start, meets.2);
   goals = λ s state unsafe.
       covered_meets p cubes (goal_cube p unsafe.0) s state (passes.goals unsafe.0 unsafe.1 (s, state, unsafe.2)) (goal_meets p unsafe.0 s unsafe.1 state unsafe.2);
   step = step;

@@ -4,29 +4,18 @@ use Rattle.std.specs.List.{AllZip}
 use Rattle.cub_proto.specs.declared.protocol.Goal.{Goal}
 use Rattle.cub_proto.specs.declared.protocol.Protocol.{Protocol}
 use Rattle.cub_proto.specs.declared.cover.CoverLine.{CoverLine}
-use Rattle.cub_proto.specs.Configuration.{Configuration}
-use Rattle.cub_proto.specs.StateOf.{signature_of}
-use Rattle.cub_proto.specs.Legal.{IsStart}
-use Rattle.cub_proto.specs.Meets.{Meets}
 use Rattle.cub_cube.specs.declared.cube.Cube.{Cube}
-use Rattle.cub_cube.specs.Normal.{normal_form}
+use Rattle.cub_cube.specs.Goals.{goal_cube}
+use Rattle.cub_cube.specs.Starts.{IsStartCube}
 use Rattle.cub_cube.specs.Meaning.{IsConsistent}
 use Rattle.cub_cube.specs.Cover.{Covers, IsCovered}
 use Rattle.piece_choices.specs.declared.piece.Piece.{Piece}
 use Rattle.piece_choices.specs.Pieces.{candidates, IsPossible, ArePieces}
 
--- a goal as a cube
-abbrev pub goal_cube : Protocol → Goal → Cube
-goal_cube p g = record { width = g.width; lits = normal_form (signature_of p) g.lits }
-
--- no start state meets the cube
-abbrev pub IsApart : Protocol → Cube → Type 0
-IsApart p c = (s : Configuration) → IsStart p s → Meets s c.width c.lits → ⊥
-
 -- the test of version 1: no start state meets a cube, and one cube covers each consistent goal and each piece of a cube,
 -- which is what its choices give where some state meets it
 pub record PassesTest (p : Protocol) (cubes : List Cube) : Type 0 where
-  pub start : (c : Cube) → Contains cubes c → IsApart p c
+  pub start : (c : Cube) → Contains cubes c → IsStartCube p c → ⊥
   pub goals : (g : Goal) → Contains p.goals g → IsConsistent p g.width g.lits → IsCovered p cubes (goal_cube p g)
   pub pieces : (c : Cube) → Contains cubes c → (x : Piece) → Contains (candidates p c) x → IsPossible p x → IsCovered p cubes x.cube
 
@@ -49,7 +38,7 @@ IsOfObligation p pieces (CoverLine.Piece cube piece by places) = (x : Piece) × 
 -- the test of version 2: each consistent goal and each piece has a line whose cube covers it by the injection of the
 -- line, and each line is of an obligation
 pub record PassesLines (p : Protocol) (cubes : List Cube) (lines : List CoverLine) : Type 0 where
-  pub start : (c : Cube) → Contains cubes c → IsApart p c
+  pub start : (c : Cube) → Contains cubes c → IsStartCube p c → ⊥
   pub goals : (n : ℕ) (g : Goal) → HasGoal p n g
       → (by : ℕ) × (places : List ℕ) × Contains lines (CoverLine.Unsafe n by places) × CoversAt p cubes by (goal_cube p g) places
   pub pieces : List (List Piece)

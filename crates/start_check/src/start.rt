@@ -9,7 +9,8 @@ ghost use Rattle.cub_proto.specs.Meets.{Satisfies};
 ghost use Rattle.theory_laws.specs.Fitting.{AreFitting};
 ghost use Rattle.theory_laws.specs.Built.{own_places};
 ghost use Rattle.theory_laws.specs.Chosen.{IsChosenState};
-ghost use Rattle.theory_laws.specs.Start.{MeetsStart, start_width, with_start_literals};
+ghost use Rattle.cub_cube.specs.Starts.{MeetsStart};
+ghost use Rattle.theory_laws.specs.Start.{start_width, with_start_literals};
 ghost use Rattle.theory_laws.specs.Small.{HasSmallIntegers};
 ghost use Rattle.theory.specs.Made.{IsFor, IsKept};
 

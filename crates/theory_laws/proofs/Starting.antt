@@ -30,7 +30,8 @@ use Rattle.theory_laws.specs.Built.{Values, value_of, home, built, own_places}
 use Rattle.theory_laws.specs.Solved.{AreValues, Solve, Fulfils, PartsHaveSolutions}
 use Rattle.theory_laws.specs.Chosen.{needed, IsChosenState}
 use Rattle.theory_laws.proofs.Choosing.{chosen_are, chosen_solve}
-use Rattle.theory_laws.specs.Start.{MeetsStart, has_start, at_each_place, start_of, start_at, start_width, with_start_literals, IsConsistentWithStart}
+use Rattle.cub_cube.specs.Starts.{MeetsStart}
+use Rattle.theory_laws.specs.Start.{has_start, at_each_place, start_of, start_at, start_width, with_start_literals, IsConsistentWithStart}
 use Rattle.theory_laws.proofs.Building.{finite_is, same_finite_left, same_finite_right, count_is, cell_is}
 use Rattle.theory_laws.proofs.Stating.{made_state, own_at}
 use Rattle.theory_laws.proofs.Meeting.{consistent_parts, satisfies_fewer}

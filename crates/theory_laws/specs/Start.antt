@@ -1,18 +1,10 @@
--- A conjunction together with the start formula: which start states meet it, and its literals joined with those of the
--- start conjunction at each place.
+-- A conjunction together with the start formula: its literals joined with those of the start conjunction at each place.
 use Rattle.std.specs.Prelude.{◌≡◌, ℕ, max, Bool, true, false, List, [], ◌∷◌, ◌++◌}
 use Rattle.std.specs.List.{flat_map, range_with_len}
 use Rattle.cub_proto.specs.declared.literal.Lit.{Lit}
 use Rattle.cub_proto.specs.declared.protocol.Protocol.{Protocol}
-use Rattle.cub_proto.specs.Configuration.{Configuration}
-use Rattle.cub_proto.specs.Legal.{IsStart}
-use Rattle.cub_proto.specs.Meets.{Meets}
 use Rattle.cub_cube.specs.Rename.{renamed_all}
 use Rattle.cub_cube.specs.Meaning.{IsConsistent}
-
--- some start state of the protocol meets the conjunction
-abbrev pub MeetsStart : Protocol → ℕ → List Lit → Type 0
-MeetsStart p width lits = (s : Configuration) × IsStart p s × Meets s width lits
 
 -- the start formula has a conjunction
 abbrev pub has_start : List (List Lit) → Bool

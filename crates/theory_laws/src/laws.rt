@@ -20,7 +20,8 @@ ghost use Rattle.theory_laws.specs.Built.{Values, built, own_places};
 ghost use Rattle.theory_laws.specs.Solved.{AreValues, Solve, PartsHaveSolutions, Fulfils};
 ghost use Rattle.theory_laws.specs.Entailed.{Entails};
 ghost use Rattle.theory_laws.specs.Chosen.{IsChosenState};
-ghost use Rattle.theory_laws.specs.Start.{MeetsStart, has_start, start_width, with_start_literals, IsConsistentWithStart};
+ghost use Rattle.cub_cube.specs.Starts.{MeetsStart};
+ghost use Rattle.theory_laws.specs.Start.{has_start, start_width, with_start_literals, IsConsistentWithStart};
 
 /// Values that solve the three parts make a state of the protocol that satisfies the conjunction, with all processes
 /// alive and the first ones at the places.
