@@ -4,3 +4,4 @@ pub mod NumberLaws
 pub mod Longest
 pub mod OneReadingLaws
 pub mod ReadingLaws
+pub mod WordLaws

@@ -18,6 +18,11 @@ mod words;
 pub use lexer::{lex, one_reading};
 pub use numbers::{NUMBER_LIMIT, number_value};
 
+// What holds of words.
+mod laws;
+
+pub use laws::reserved_words_are_no_names;
+
 // What stands where.
 mod places;
 
