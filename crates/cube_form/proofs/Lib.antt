@@ -1,0 +1,9 @@
+pub mod Admitted
+pub mod Distinct
+pub mod Given
+pub mod Literals
+pub mod Loops
+pub mod PlaceOrder
+pub mod Removal
+pub mod Renaming
+pub mod Simplifying

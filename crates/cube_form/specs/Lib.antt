@@ -1,0 +1,3 @@
+pub mod Simple
+pub mod Name
+pub mod Form
