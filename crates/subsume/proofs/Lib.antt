@@ -1,0 +1,8 @@
+pub mod Fronts
+pub mod Placed
+pub mod Retiring
+pub mod Bits
+pub mod Changed
+pub mod Asked
+pub mod Marked
+pub mod Summarized

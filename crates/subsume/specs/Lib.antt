@@ -1,0 +1,6 @@
+pub mod Injections
+pub mod Ready
+pub mod Scanned
+pub mod Marks
+pub mod Gathering
+pub mod Summary

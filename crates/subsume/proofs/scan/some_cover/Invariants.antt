@@ -1,0 +1,12 @@
+use Rattle.std.proofs.Common.{◌≡◌, ℕ, ◌<◌}
+use Rattle.std.specs.Prelude.{slice_index}
+use Rattle.cub_cube.specs.Cover.{DoesCover}
+use Rattle.log_form.specs.Links.{cube_at}
+use Rattle.subsume.specs.Ready.{IsReady}
+use Rattle.subsume.proofs.scan.some_cover.Given as goal
+
+abbrev pub invariant-loop-i : goal.invariant-loop-i
+invariant-loop-i l = record {
+  ready : IsReady l.protocol l.cube l.consistent l.scratch;
+  none : (j : ℕ) → j < l.i → slice_index l.retired j ≡ 0 → DoesCover l.protocol (cube_at l.cubes j) l.cube → ⊥;
+}
