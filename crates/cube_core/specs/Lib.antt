@@ -1,2 +1,8 @@
-pub mod Pieces
-pub mod Judged
+pub mod Refusal
+pub mod Answers
+pub mod Chosen
+pub mod Waiting
+pub mod Kept
+pub mod Judgements
+pub mod Admits
+pub mod Given

@@ -1,16 +1,33 @@
-//! The log of a search as a value that changes by legal events alone: judging a node, and adding what was judged.
+//! The log of a search as a value that changes by legal events alone.
 #![tactic(auto)]
 
-// What the log asks of the theory and of pre-images.
-mod deciding;
+// What the log asks of the theory and of pre-images, and what it shares with other crates.
+pub use cub_proto::Budget;
+pub use log_form::{
+    Added, AddedList, Fate, LogEvent, LogEvents, LogVerdict, Mark, Node, Nodes, Origin, PreImages,
+};
+pub use log_steps::{Decisions, Expands};
 
-pub use deciding::{Decisions, Expands};
+// Judging a node on the first nodes of a log.
+pub use log_steps::{Links, Pick, Picks, Under, Verdict, judge};
 
-// Judgements of nodes.
-mod judgement;
+// What an expansion came to.
+mod outcome;
+mod refusing;
 
-pub use judgement::{Links, Pick, Picks, Under, Verdict};
+pub use outcome::Outcome;
 
-mod judging;
+// Given events.
+mod fault;
+mod given;
 
-pub use judging::{judge, judge_list};
+pub use fault::AdmitFault;
+
+// The least node that waits.
+mod waiting;
+
+// The log.
+mod copies;
+mod log;
+
+pub use log::Log;

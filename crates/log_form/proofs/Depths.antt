@@ -31,7 +31,7 @@ get_contains [] i x h = cc
 get_contains (y ∷ xs) zero x h = (0, omega arith, cc)
 get_contains (y ∷ xs) (suc i) x h = let (k, below, is) = get_contains xs i x h in (suc k, omega arith, is)
 
-goal_fit : (p : Protocol) (g : Goal) → Contains p.goals g → IsFit p widest (bound_at 0) (goal_cube p g)
+pub goal_fit : (p : Protocol) (g : Goal) → Contains p.goals g → IsFit p widest (bound_at 0) (goal_cube p g)
 goal_fit p g inside = record {
   narrow = narrow;
   fits = fold_fits (signature_of p) g.width [] g.lits refl (goal_literals p g inside);

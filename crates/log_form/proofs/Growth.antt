@@ -13,7 +13,7 @@ use Rattle.log_form.proofs.Covered.{cube_at-cubes_of, length-cubes_of}
 abbrev pub no_added : Added
 no_added = record { piece = 0; places = []; cube = no_cube }
 
-new_cubes : (from : Option ℕ) (list : List Added) → cubes_of (new_nodes from list) ≡ added_cubes list
+pub new_cubes : (from : Option ℕ) (list : List Added) → cubes_of (new_nodes from list) ≡ added_cubes list
 new_cubes from [] = refl
 new_cubes from (a ∷ list) = ap (λ cs. a.cube ∷ cs) (new_cubes from list)
 

@@ -1,8 +1,0 @@
-use Rattle.cube_core.proofs.JudgeLemmas.{joined}
-use Rattle.cube_core.specs.Judged.{pick_cubes}
-use Rattle.cube_core.proofs.judging.is_covered.Goals as goal
-
-pub returns-clause-value : goal.returns-clause-value
-returns-clause-value g c =
-    joined c.args.protocol.now (g.F.Finder.list c.args.finder.now) (pick_cubes c.args.picks.now) c.args.cube.now c.picks_cover.result
-    (λ h. let t = c.is_covered.ensures.value.1 h in let f = c.if-is_covered.false in cc) c.picks_cover.ensures.value
