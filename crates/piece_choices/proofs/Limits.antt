@@ -56,12 +56,12 @@ bounded_wider small large (ProcEq u v) h b = refl
 bounded_wider small large (ProcNe u v) h b = refl
 bounded_wider small large (Diff u v bound) h b = let le = le_is (unsigned_abs bound) small b in is_le (unsigned_abs bound) large (omega arith)
 
-all_wider : (small large : ℕ) (lits : List Lit) → small ≤ large → IsTrue (list_all (is_bounded small) lits) → IsTrue (list_all (is_bounded large) lits)
+pub all_wider : (small large : ℕ) (lits : List Lit) → small ≤ large → IsTrue (list_all (is_bounded small) lits) → IsTrue (list_all (is_bounded large) lits)
 all_wider small large [] h b = refl
 all_wider small large (l ∷ ls) h b =
     and_both (is_bounded large l) (list_all (is_bounded large) ls) (bounded_wider small large l h (and_left (is_bounded small l) (list_all (is_bounded small) ls) b)) (all_wider small large ls h (and_right (is_bounded small l) (list_all (is_bounded small) ls) b))
 
-renamed_bounded : (limit : ℕ) (r : List ℕ) (lits : List Lit) → IsTrue (list_all (is_bounded limit) lits) → IsTrue (list_all (is_bounded limit) (renamed_all r lits))
+pub renamed_bounded : (limit : ℕ) (r : List ℕ) (lits : List Lit) → IsTrue (list_all (is_bounded limit) lits) → IsTrue (list_all (is_bounded limit) (renamed_all r lits))
 renamed_bounded limit r [] h = refl
 renamed_bounded limit r (l ∷ ls) h =
     and_both (is_bounded limit (renamed r l)) (list_all (is_bounded limit) (renamed_all r ls)) (one l (and_left (is_bounded limit l) (list_all (is_bounded limit) ls) h)) (renamed_bounded limit r ls (and_right (is_bounded limit l) (list_all (is_bounded limit) ls) h))
@@ -77,7 +77,7 @@ renamed_bounded limit r (l ∷ ls) h =
 turned_size : (b : ℤ) (limit : ℕ) → unsigned_abs b ≤ limit → unsigned_abs ((pos 0 -ℤ b) -ℤ pos 1) ≤ limit + 1
 turned_size b limit h = grind (arith, ints)
 
-negated_bounded : (sig : Signature) (limit : ℕ) (l : Lit) → IsTrue (is_bounded limit l) → IsTrue (is_bounded (limit + 1) (negated sig l))
+pub negated_bounded : (sig : Signature) (limit : ℕ) (l : Lit) → IsTrue (is_bounded limit l) → IsTrue (is_bounded (limit + 1) (negated sig l))
 negated_bounded sig limit (FinIn t mask) b = refl
 negated_bounded sig limit (FinEq u v) b = refl
 negated_bounded sig limit (FinNe u v) b = refl
@@ -85,14 +85,14 @@ negated_bounded sig limit (ProcEq u v) b = refl
 negated_bounded sig limit (ProcNe u v) b = refl
 negated_bounded sig limit (Diff u v bound) b = is_le (unsigned_abs ((pos 0 -ℤ bound) -ℤ pos 1)) (limit + 1) (turned_size bound limit (le_is (unsigned_abs bound) limit b))
 
-all_append : {A : Type 0} (test : A → Bool) (xs ys : List A) → IsTrue (list_all test xs) → IsTrue (list_all test ys) → IsTrue (list_all test (xs ++ ys))
+pub all_append : {A : Type 0} (test : A → Bool) (xs ys : List A) → IsTrue (list_all test xs) → IsTrue (list_all test ys) → IsTrue (list_all test (xs ++ ys))
 all_append test [] ys h k = k
 all_append test (x ∷ xs) ys h k = and_both (test x) (list_all test (xs ++ ys)) (and_left (test x) (list_all test xs) h) (all_append test xs ys (and_right (test x) (list_all test xs) h) k)
 
 conjunction_bounded : (sig : Signature) (width : ℕ) (lits : List Lit) → IsTrue (conjunction_fits sig width lits) → IsTrue (list_all (is_bounded greatest_bound) lits)
 conjunction_bounded sig width lits h = and_right (nat_le (length lits) 64 && list_all (literal_fits sig width) lits) (list_all (is_bounded greatest_bound) lits) h
 
-alternative_bounded : (sig : Signature) (width : ℕ) (conjs : List (List Lit)) (n : ℕ) → IsTrue (list_all (conjunction_fits sig width) conjs) → IsTrue (list_all (is_bounded greatest_bound) (slice_index_or conjs n []))
+pub alternative_bounded : (sig : Signature) (width : ℕ) (conjs : List (List Lit)) (n : ℕ) → IsTrue (list_all (conjunction_fits sig width) conjs) → IsTrue (list_all (is_bounded greatest_bound) (slice_index_or conjs n []))
 alternative_bounded sig width [] n h = refl
 alternative_bounded sig width (c ∷ cs) zero h = conjunction_bounded sig width c (and_left (conjunction_fits sig width c) (list_all (conjunction_fits sig width) cs) h)
 alternative_bounded sig width (c ∷ cs) (suc n) h = alternative_bounded sig width cs n (and_right (conjunction_fits sig width c) (list_all (conjunction_fits sig width) cs) h)
@@ -104,13 +104,13 @@ permissions_bounded sig width t params (q ∷ qs) (n ∷ ns) h =
     all_append (is_bounded greatest_bound) (renamed_all (params ++ q ∷ []) (slice_index_or t.others n [])) (permissions t params qs ns)
     (renamed_bounded greatest_bound (params ++ q ∷ []) (slice_index_or t.others n []) (alternative_bounded sig width t.others n h)) (permissions_bounded sig width t params qs ns h)
 
-condition_bounded : (sig : Signature) (width : ℕ) (sort : Sort) (branches : List Branch) (n : ℕ) → IsTrue (list_all (branch_fits sig width sort) branches) → IsTrue (list_all (is_bounded greatest_bound) (condition branches n))
+pub condition_bounded : (sig : Signature) (width : ℕ) (sort : Sort) (branches : List Branch) (n : ℕ) → IsTrue (list_all (branch_fits sig width sort) branches) → IsTrue (list_all (is_bounded greatest_bound) (condition branches n))
 condition_bounded sig width sort [] n h = refl
 condition_bounded sig width sort (b ∷ bs) zero h =
     conjunction_bounded sig width b.cond (and_left (conjunction_fits sig width b.cond) (value_fits sig width sort b.value) (and_left (branch_fits sig width sort b) (list_all (branch_fits sig width sort) bs) h))
 condition_bounded sig width sort (b ∷ bs) (suc n) h = condition_bounded sig width sort bs n (and_right (branch_fits sig width sort b) (list_all (branch_fits sig width sort) bs) h)
 
-item_bounded : (limit : ℕ) (lits : List Lit) (f : ℕ) → IsTrue (list_all (is_bounded limit) lits) → IsTrue (is_bounded limit (slice_index_or lits f (constant true)))
+pub item_bounded : (limit : ℕ) (lits : List Lit) (f : ℕ) → IsTrue (list_all (is_bounded limit) lits) → IsTrue (is_bounded limit (slice_index_or lits f (constant true)))
 item_bounded limit [] f h = is_le 0 limit (omega arith)
 item_bounded limit (l ∷ ls) zero h = and_left (is_bounded limit l) (list_all (is_bounded limit) ls) h
 item_bounded limit (l ∷ ls) (suc f) h = item_bounded limit ls f (and_right (is_bounded limit l) (list_all (is_bounded limit) ls) h)

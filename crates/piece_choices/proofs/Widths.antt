@@ -49,7 +49,7 @@ grows sig updates params c = is_any (chosen_value updates params c) && is_sort (
 abbrev one_if : Bool → ℕ
 one_if b = if b then 1 else 0
 
-values_grow : (sig : Signature) (width : ℕ) (t : Term) (o : Option Sort) (x : Pick) → Has (values_for sig width t o) x → x.width ≤ width + one_if (is_sort o Sort.Proc)
+pub values_grow : (sig : Signature) (width : ℕ) (t : Term) (o : Option Sort) (x : Pick) → Has (values_for sig width t o) x → x.width ≤ width + one_if (is_sort o Sort.Proc)
 values_grow sig width t (Some (Sort.Fin k)) x h =
     let found = map_has (λ c. pick width (Value.Con c)) (range_with_len 0 (constructors_of sig (Sort.Fin k))) x h in
     subst (λ y. y.width ≤ width + 0) found.2 (omega arith)
@@ -101,7 +101,7 @@ pickings_grow sig updates params width (c ∷ cs) x h =
     (sum_by-cons (λ d. if grows sig updates params d then 1 else 0) one.its rest.0.choices)))
 
 -- ---- distinct items of a list are no more than the list has
-without : {A : Type 0} (ys : List A) (x : A) → Has ys x → List A
+pub without : {A : Type 0} (ys : List A) (x : A) → Has ys x → List A
 without [] x none = []
 without (y ∷ ys) x (inl same) = ys
 without (y ∷ ys) x (inr later) = y ∷ without ys x later
@@ -120,7 +120,7 @@ still_has (y ∷ ys) x z (inl same) differ (inr later) = later
 still_has (y ∷ ys) x z (inr at) differ (inl here) = inl here
 still_has (y ∷ ys) x z (inr at) differ (inr later) = inr (still_has ys x z at differ later)
 
-no_more : {A : Type 0} (xs ys : List A) → Distinct xs → ((x : A) → Has xs x → Has ys x) → length xs ≤ length ys
+pub no_more : {A : Type 0} (xs ys : List A) → Distinct xs → ((x : A) → Has xs x → Has ys x) → length xs ≤ length ys
 no_more [] ys distinct inside = omega arith
 no_more {A} (x ∷ xs) ys distinct inside =
     let at = inside x (inl refl) in
@@ -128,7 +128,7 @@ no_more {A} (x ∷ xs) ys distinct inside =
     omega (arith, rest, length-without ys x at)
 
 -- ---- the choices that pick a process, and the updates that can give any
-find_has : {A : Type 0} (test : A → Bool) (xs : List A) (x : A) → find test xs ≡ Some x → Has xs x
+pub find_has : {A : Type 0} (test : A → Bool) (xs : List A) (x : A) → find test xs ≡ Some x → Has xs x
 find_has test [] x h = cc
 find_has {A} test (y ∷ ys) x h = by (test y) h (find_has test ys x)
   where
@@ -136,7 +136,7 @@ find_has {A} test (y ∷ ys) x h = by (test y) h (find_has test ys x)
     by true e rest = let same : y ≡ x = cc in inl same
     by false e rest = inr (rest e)
 
-any_branch : (branches : List Branch) (last : Value) (n : ℕ) → is_any (option_map_or (λ b. b.value) (slice_get branches n) last) ≡ true → (is_any last || list_any (λ b. is_any b.value) branches) ≡ true
+pub any_branch : (branches : List Branch) (last : Value) (n : ℕ) → is_any (option_map_or (λ b. b.value) (slice_get branches n) last) ≡ true → (is_any last || list_any (λ b. is_any b.value) branches) ≡ true
 any_branch [] last n h = ap (λ b. b || false) h
 any_branch (b ∷ bs) last zero h = ap (λ x. is_any last || (x || list_any (λ y. is_any y.value) bs)) h ∙ by (is_any last)
   where
@@ -204,7 +204,7 @@ module _ (p : Protocol) (t : Transition) (params : List ℕ) (fit : IsTrue (list
       subst (Has (map (λ u. u.target) theirs)) found.2 (target_picks found.0 its.1)) in
       omega (arith, few, length-map mine (λ d. target_of d.term), length-map theirs (λ u. u.target), length-filter (grows (signature_of p) t.updates params) ds, length-filter (picks_process (signature_of p)) t.updates)
 
-transition_few : (p : Protocol) (number : ℕ) (t : Transition) → slice_get p.transitions number ≡ Some t → t.params + count_by (picks_process (signature_of p)) t.updates ≤ 3
+pub transition_few : (p : Protocol) (number : ℕ) (t : Transition) → slice_get p.transitions number ≡ Some t → t.params + count_by (picks_process (signature_of p)) t.updates ≤ 3
 transition_few p number t at = of_fit (found p.transitions number at p.transitions_fit)
   where
     found : (ts : List Transition) (n : ℕ) → slice_get ts n ≡ Some t → All (λ x. IsTrue (transition_fits (signature_of p) x)) ts → IsTrue (transition_fits (signature_of p) t)

@@ -1,0 +1,11 @@
+pub mod UpdateFacts
+pub mod HandsLemmas
+pub mod OptionLemmas
+pub mod Standing
+pub mod Readiness
+pub mod Leaves
+pub mod Cutting
+pub mod Walking
+pub mod StepLists
+pub mod Beginning
+pub mod Gathering

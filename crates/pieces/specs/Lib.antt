@@ -1,0 +1,4 @@
+pub mod Options
+pub mod Marks
+pub mod Jobs
+pub mod Handed

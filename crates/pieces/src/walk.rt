@@ -1,0 +1,179 @@
+//! The walk through all choices: backtracking over one work record. Each step is a level; its options are taken in order,
+//! and undone by cutting the record back. As soon as no state meets the literals so far, the draft is given up with all
+//! choices behind it: every piece behind it would have these literals.
+
+ghost use Rattle.std.specs.Prelude.{◌≡◌, ◌<◌, ◌≤◌, ◌+◌, ◌*◌, ◌-◌, ◌^◌, ◌↔◌, [], false, drop, length, OnOk, IsTrue};
+ghost use Rattle.std.specs.List.{flat_map};
+ghost use Rattle.cub_proto.specs.StateOf.{signature_of};
+ghost use Rattle.cub_cube.specs.Kept.{Keeps};
+ghost use Rattle.cub_cube.specs.Meaning.{IsConsistent};
+ghost use Rattle.theory_laws.specs.Fitting.{AreFitting};
+ghost use Rattle.theory.specs.Made.{IsFor, IsKept};
+ghost use Rattle.piece_choices.specs.Pieces.{IsPossible};
+ghost use Rattle.pieces.specs.Options.{options, option_at};
+ghost use Rattle.pieces.specs.Jobs.{Stands, as_step, term_number, step_at, behind};
+ghost use Rattle.pieces.specs.Marks.{mark_of};
+ghost use Rattle.pieces.specs.Handed.{Hands};
+
+use crate::job::Job;
+use crate::options::{option_count, take_option};
+use crate::receiver::Receiver;
+use crate::step::Step;
+use crate::whole::whole_cube;
+use crate::work::{Mark, Work};
+use cub_base::Memory;
+use cub_proto::Lit;
+use theory::Scratch;
+
+// The number of the term whose choice a step may change, or 0.
+fn term_of(step: Step) -> usize
+    ensures { result ≡ term_number (as_step step) }
+{
+    match step {
+        Step::Branch(i) | Step::Fail(i, _) | Step::Choose(i) => i,
+        Step::Param | Step::Guard | Step::Other(_) | Step::Late(_) => 0,
+    }
+}
+
+// Whether some state meets the literals.
+fn is_met(job: &Job, scratch: &mut Scratch, width: u8, lits: &[Lit]) -> bool
+    requires made { IsFor job.now.protocol scratch.old }
+    requires fitting { AreFitting job.now.protocol width lits.now }
+    ensures kept { IsKept scratch.old scratch.new }
+    ensures made { IsFor job.now.protocol scratch.new }
+    ensures exact { IsTrue result ↔ IsConsistent job.now.protocol width lits.now }
+{
+    theory::are_consistent(scratch, job.protocol, width, lits, &[])
+}
+
+// Whether there may be pieces behind the draft. It is not asked again where no literal came since the last test.
+fn may_go_on(job: &Job, scratch: &mut Scratch, work: &Work, at: usize, tested: usize) -> bool
+    requires made { IsFor job.now.protocol scratch.old }
+    requires stands { Stands job.now (drop at job.now.steps) work.now }
+    ensures kept { IsKept scratch.old scratch.new }
+    ensures made { IsFor job.now.protocol scratch.new }
+    ensures none { result ≡ false → Keeps (IsPossible job.now.protocol) (behind job.now (drop at job.now.steps) work.now) [] }
+{
+    if work.lits.len() == tested {
+        return true;
+    }
+    is_met(job, scratch, work.width, work.lits.as_slice())
+}
+
+// Hands on the piece of a whole draft, if it is one.
+fn hand_on<R: Receiver>(
+    job: &Job,
+    scratch: &mut Scratch,
+    work: &mut Work,
+    receiver: &mut R,
+) -> Result<(), Memory>
+    requires made { IsFor job.now.protocol scratch.old }
+    requires stands { Stands job.now [] work.old }
+    ensures kept { IsKept scratch.old scratch.new }
+    ensures made { IsFor job.now.protocol scratch.new }
+    ensures same { OnOk result (work.new ≡ work.old) }
+    ensures handed { OnOk result (Hands (IsPossible job.now.protocol) R.takes (behind job.now [] work.old) receiver.old receiver.new) }
+{
+    let cube = whole_cube(job, work)?;
+    if is_met(job, scratch, cube.width, cube.lits.as_slice()) {
+        receiver.take(job.number, work, cube)?;
+    }
+    Ok(())
+}
+
+// What to cut back to after an option of the step with that number.
+fn mark_at(job: &Job, work: &Work, at: usize) -> Mark
+    requires { at < length job.now.steps }
+    ensures mark { result ≡ mark_of (term_number (step_at job.now at)) work.now }
+    ensures short { at + 1 < 2 ^ 64 }
+{
+    let steps = job.steps;
+    work.mark(term_of(steps[at]))
+}
+
+// Whether no step is to go.
+fn is_end(job: &Job, at: usize) -> bool
+    ensures { IsTrue result ↔ (at ≡ length job.now.steps) }
+{
+    at == job.steps.len()
+}
+
+// Goes on with a draft, unless no state meets its literals.
+#[cycle(walk)]
+fn descend<R: Receiver>(
+    job: &Job,
+    scratch: &mut Scratch,
+    work: &mut Work,
+    at: usize,
+    tested: usize,
+    receiver: &mut R,
+) -> Result<(), Memory>
+    requires made { IsFor job.now.protocol scratch.old }
+    requires there { at ≤ length job.now.steps }
+    requires stands { Stands job.now (drop at job.now.steps) work.old }
+    ensures kept { IsKept scratch.old scratch.new }
+    ensures made { IsFor job.now.protocol scratch.new }
+    ensures same { OnOk result (work.new ≡ work.old) }
+    ensures handed { OnOk result (Hands (IsPossible job.now.protocol) R.takes (behind job.now (drop at job.now.steps) work.old) receiver.old receiver.new) }
+{
+    if !may_go_on(job, scratch, work, at, tested) {
+        return Ok(());
+    }
+    walk(job, scratch, work, at, receiver)
+}
+
+// Goes on with one option of a step, and undoes it.
+#[cycle(walk)]
+fn attempt<R: Receiver>(
+    job: &Job,
+    scratch: &mut Scratch,
+    work: &mut Work,
+    at: usize,
+    k: usize,
+    receiver: &mut R,
+) -> Result<(), Memory>
+    requires made { IsFor job.now.protocol scratch.old }
+    requires there { at < length job.now.steps }
+    requires stands { Stands job.now (drop at job.now.steps) work.old }
+    requires inside { k < options (signature_of job.now.protocol) job.now.transition job.now.cube.width (step_at job.now at) work.old }
+    ensures kept { IsKept scratch.old scratch.new }
+    ensures made { IsFor job.now.protocol scratch.new }
+    ensures same { OnOk result (work.new ≡ work.old) }
+    ensures handed { OnOk result (Hands (IsPossible job.now.protocol) R.takes (flat_map (behind job.now (drop (at + 1) job.now.steps)) (option_at (signature_of job.now.protocol) job.now.transition job.now.cube.width (step_at job.now at) work.old k)) receiver.old receiver.new) }
+{
+    let mark = mark_at(job, work, at);
+    let tested = work.lits.len();
+    if !take_option(job, work, at, k)? {
+        return Ok(());
+    }
+    descend(job, scratch, work, at + 1, tested, receiver)?;
+    work.cut(&mark);
+    Ok(())
+}
+
+/// Hands on the pieces behind a draft with the steps from that number on to go, in order.
+#[cycle(walk)]
+pub(crate) fn walk<R: Receiver>(
+    job: &Job,
+    scratch: &mut Scratch,
+    work: &mut Work,
+    at: usize,
+    receiver: &mut R,
+) -> Result<(), Memory>
+    requires made { IsFor job.now.protocol scratch.old }
+    requires there { at ≤ length job.now.steps }
+    requires stands { Stands job.now (drop at job.now.steps) work.old }
+    ensures kept { IsKept scratch.old scratch.new }
+    ensures made { IsFor job.now.protocol scratch.new }
+    ensures same { OnOk result (work.new ≡ work.old) }
+    ensures handed { OnOk result (Hands (IsPossible job.now.protocol) R.takes (behind job.now (drop at job.now.steps) work.old) receiver.old receiver.new) }
+{
+    if is_end(job, at) {
+        return hand_on(job, scratch, work, receiver);
+    }
+    let count = option_count(job, work, at);
+    for k in 0..count {
+        attempt(job, scratch, work, at, k, receiver)?;
+    }
+    Ok(())
+}
