@@ -1,0 +1,13 @@
+pub mod Declared
+pub mod GroupLaws
+pub mod Lawful
+pub mod LitWords
+pub mod Marking
+pub mod MaskWords
+pub mod OneSpelling
+pub mod PartLaws
+pub mod ReadBack
+pub mod Splitting
+pub mod TermWords
+pub mod WordCounts
+pub mod Words

@@ -1,0 +1,5 @@
+pub mod Form
+pub mod Groups
+pub mod Meaning
+pub mod Reading
+pub mod Text
