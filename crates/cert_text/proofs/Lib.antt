@@ -1,0 +1,11 @@
+pub mod Again
+pub mod Looping
+pub mod OneLines
+pub mod PlaceLaws
+pub mod Refused
+pub mod Steps
+pub mod StepsMore
+pub mod Stuck
+pub mod Takes
+pub mod ToldLaws
+pub mod WideNumbers
