@@ -34,11 +34,13 @@ pub record IsNoGoal (p : Protocol) (s : Configuration) (events : List Event) (go
   pub run : IsRun p s events
   pub ends : MakesUnsafe p (after_all p s events) goal places → ⊥
 
--- the steps alone don't fail as the trace says
+-- the trace says where the steps alone fail, and they don't fail so
 pub record IsNoPlain (p : Protocol) (s : Configuration) (events : List Event) (goal : ℕ) (places : List ℕ) (plain : Option Plain) : Type 0 where
   pub unsafe_run : IsUnsafeRun p s events goal places
   pub heading : heading_fits plain events ≡ true
-  pub fails : IfSome plain (λ told. fails_plainly p s events told ≡ false)
+  pub told : Plain
+  pub is_told : plain ≡ Some told
+  pub fails : fails_plainly p s events told ≡ false
 
 -- what each refusal says; want of memory says nothing
 abbrev pub IsRefused : Protocol → Configuration → List Event → ℕ → List ℕ → Option Plain → Refusal → Type 0

@@ -1,3 +1,4 @@
 pub mod Trace
 pub mod Plain
 pub mod Judge
+pub mod Laws

@@ -5,3 +5,8 @@
 mod judge;
 
 pub use judge::{Refusal, replayed};
+
+// Laws of the judgement.
+mod laws;
+
+pub use laws::{no_reason, one_reason};

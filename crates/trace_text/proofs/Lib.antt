@@ -1,0 +1,14 @@
+pub mod WriteLaws
+pub mod ToldLaws
+pub mod Steps
+pub mod Takes
+pub mod Looping
+pub mod PlaceLaws
+pub mod StartLaws
+pub mod StartFits
+pub mod OneLines
+pub mod Again
+pub mod Refused
+pub mod PickLaws
+pub mod PlainFacts
+pub mod Stuck

@@ -1,0 +1,19 @@
+use Rattle.std.proofs.Common.{◌≡◌, ◌==◌, true, refl, sym, ◌∙◌, ap, length}
+use Rattle.std.proofs.lemmas.List.{nil_from_length}
+use Rattle.std.proofs.lemmas.Bool.{eqb-true}
+use Rattle.text_lines.specs.Reading.{ends, stops}
+use Rattle.trace_text.proofs.reader.read_nothing.Goals as goal
+
+pub returns-then-is_empty-clause-ok : goal.returns-then-is_empty-clause-ok
+returns-then-is_empty-clause-ok c = λ p t.
+    ends t (nil_from_length c.args.text.now (eqb-true (length c.args.text.now) 0 (sym c.is_empty.ensures ∙ c.if-is_empty.true))) refl
+
+pub returns-else-is_empty-clause-err : goal.returns-else-is_empty-clause-err
+returns-else-is_empty-clause-err c = λ p t. stops (record {
+  no_end = λ e.
+      let empty : (length c.args.text.now == 0) ≡ true = ap (λ b. length b == 0) e in
+      let test = c.is_empty.ensures in
+      let answer = c.if-is_empty.false in
+      absurd cc;
+  no_line = λ bytes rest q at k. k;
+})

@@ -1,0 +1,6 @@
+pub mod Text
+pub mod Lawful
+pub mod Place
+pub mod Values
+pub mod Told
+pub mod Laws
