@@ -1,5 +1,6 @@
 -- The codes of faults as they are written.
-use Rattle.std.specs.Prelude.{ℕ, List, codes}
+use Rattle.std.specs.Prelude.{ℕ, List, ◌++◌, codes}
+use Rattle.std.specs.Fmt.{decimal}
 use Rattle.cub_words.specs.declared.request.WordsKind.{WordsKind}
 use Rattle.cub_words.specs.declared.request.WordsKind.TheVariants as words
 use Rattle.cub_lexer.specs.declared.fault.LexKind.{LexKind}
@@ -58,3 +59,7 @@ abbrev pub text_code : TextCode → List ℕ
 text_code (Lexical kind) = lexical_code kind
 text_code (Grammar kind) = grammar_code kind
 text_code (Typing kind) = typing_code kind
+
+-- faults of the text of a trace: 0 is a text above its limit, 1 to 6 are faulty lines
+abbrev pub trace_code : ℕ → List ℕ
+trace_code kind = codes "S" ++ decimal kind

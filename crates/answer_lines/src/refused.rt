@@ -1,7 +1,8 @@
 //! Lines of what is not read: words, a protocol, a trace.
 
-ghost use Rattle.std.specs.Prelude.{◌≡◌, codes, IfOk};
-ghost use Rattle.answer_lines.specs.Codes.{words_code, text_code};
+ghost use Rattle.std.specs.Prelude.{◌≡◌, ◌++◌, codes, IfOk, OnOk};
+ghost use Rattle.std.specs.Fmt.{decimal};
+ghost use Rattle.answer_lines.specs.Codes.{words_code, text_code, trace_code};
 ghost use Rattle.answer_lines.specs.Lines.{words_line, place_line, form_line};
 
 use crate::answer::{Answer, begun, put, put_number};
@@ -57,21 +58,27 @@ pub fn at_long_protocol(alloc: Global) -> Result<Answer, Memory>
     Ok(Answer { status: 4, text })
 }
 
-/// Status 9, at a faulty line of a trace.
-pub fn at_trace_fault(alloc: Global, code: &[u8], line: u32) -> Result<Answer, Memory>
-    ensures { IfOk result (λ answer. (answer.status ≡ 9) × (answer.text ≡ form_line code.now line)) }
+fn put_line(text: &mut Text, line: u32) -> Result<(), Memory>
+    ensures { OnOk result (text.new ≡ text.old ++ codes " at line " ++ decimal line ++ codes "\n") }
 {
-    let mut text = begun(alloc, b"REFUSED ")?;
-    put(&mut text, code)?;
-    put(&mut text, b" at line ")?;
-    put_number(&mut text, u64::from(line))?;
-    put(&mut text, b"\n")?;
+    put(text, b" at line ")?;
+    put_number(text, u64::from(line))?;
+    put(text, b"\n")
+}
+
+/// Status 9, at a faulty line of a trace. The kind is 1 to 6, or 0 for a text above its limit.
+pub fn at_trace_fault(alloc: Global, kind: u8, line: u32) -> Result<Answer, Memory>
+    ensures { IfOk result (λ answer. (answer.status ≡ 9) × (answer.text ≡ form_line (trace_code kind) line)) }
+{
+    let mut text = begun(alloc, b"REFUSED S")?;
+    put_number(&mut text, u64::from(kind))?;
+    put_line(&mut text, line)?;
     Ok(Answer { status: 9, text })
 }
 
 /// Status 9, at a trace above its limit.
 pub fn at_long_trace(alloc: Global) -> Result<Answer, Memory>
-    ensures { IfOk result (λ answer. (answer.status ≡ 9) × (answer.text ≡ form_line (codes "S0") 1)) }
+    ensures { IfOk result (λ answer. (answer.status ≡ 9) × (answer.text ≡ form_line (trace_code 0) 1)) }
 {
-    at_trace_fault(alloc, b"S0", 1)
+    at_trace_fault(alloc, 0, 1)
 }

@@ -1,2 +1,5 @@
 pub mod Asked
 pub mod Telling
+pub mod Lawful
+pub mod OneProtocol
+pub mod OneAnswer

@@ -1,5 +1,5 @@
 -- What the program answers to its words.
-use Rattle.std.specs.Prelude.{◌≡◌, ℕ, List, [], ◌∷◌, Result, Ok, Err, codes}
+use Rattle.std.specs.Prelude.{◌≡◌, ◌⊎◌, ℕ, Bool, true, false, ◌||◌, List, [], ◌∷◌, Result, Ok, Err, codes, bytes_eq}
 use Rattle.cub_proto.specs.declared.protocol.Protocol.{Protocol}
 use Rattle.cub_words.specs.declared.request.WordsFault.{WordsFault}
 use Rattle.cub_words.specs.Reading.{Request, reading}
@@ -35,9 +35,15 @@ abbrev pub AnswersReading : Told → ℕ → Result Request WordsFault → Answe
 AnswersReading told taken (Ok request) = AnswersRequest told taken request
 AnswersReading told taken (Err fault) = AnswersWords (words_code fault.kind) fault.word
 
--- the answer to words
+-- the first word is a command of the table that is not built yet
+abbrev pub asks_more : List (List ℕ) → Bool
+asks_more [] = false
+asks_more (word ∷ words) = bytes_eq word (codes "check") || bytes_eq word (codes "verify") || bytes_eq word (codes "sample")
+
+-- the answer to words: a command that is not built yet is refused, whatever words follow
 abbrev pub IsAnswer : Told → ℕ → List (List ℕ) → Answers
-IsAnswer told taken words = AnswersReading told taken (reading words)
+IsAnswer told taken words status text =
+    ((asks_more words ≡ true) × AnswersNothing status text) ⊎ ((asks_more words ≡ false) × AnswersReading told taken (reading words) status text)
 
 -- the files of a command, in their order; a command that is not built yet asks for none
 abbrev pub files_named : Request → List (List ℕ)

@@ -1,3 +1,4 @@
 pub mod Files
 pub mod Replays
 pub mod Answer
+pub mod Laws

@@ -4,6 +4,9 @@
 // The top call.
 mod top;
 
+// Laws of the answers.
+mod laws;
+
 // Its parts: the texts of protocols, `print`, `replay`.
 mod files;
 mod prints;

@@ -16,15 +16,15 @@ use answer_lines::{
 use cub_base::Memory;
 use cub_proto::{Protocol, Trace};
 use io_edge::{LoadFault, Shelf};
-use plain_trace::{TraceFault, read_trace};
 use protocol_text::{PROTOCOL_LIMIT, TextFault, read_protocol};
 use std::alloc::Global;
 use trace_judge::{Refusal, replayed};
+use trace_text::{TraceFault, read};
 
 // The answer to a trace.
 fn judged(alloc: Global, protocol: &Protocol, trace: Trace) -> Result<Answer, Memory>
     requires { MayReplay protocol.now trace.start trace.events }
-    ensures { IfOk result (λ answer. IsJudged protocol.now answer.status answer.text) }
+    ensures { IfOk result (λ answer. Accepts protocol.now trace answer.status answer.text ⊎ Refuses protocol.now trace answer.status answer.text) }
 {
     let accepted = at_accepted(alloc, trace.events.as_slice())?;
     match replayed(protocol, trace) {
@@ -36,11 +36,12 @@ fn judged(alloc: Global, protocol: &Protocol, trace: Trace) -> Result<Answer, Me
 
 // The answer to the bytes of a trace.
 fn bytes_answer(alloc: Global, protocol: &Protocol, bytes: &[u8]) -> Result<Answer, Memory>
-    ensures { IfOk result (λ answer. IsUnread answer.status answer.text ⊎ IsJudged protocol.now answer.status answer.text) }
+    requires { length bytes.now ≤ 268435456 }
+    ensures { IfOk result (λ answer. IsUnread protocol.now bytes.now answer.status answer.text ⊎ IsJudged protocol.now bytes.now answer.status answer.text) }
 {
-    match read_trace(alloc, protocol, bytes) {
+    match read(protocol, bytes) {
         Ok(trace) => judged(alloc, protocol, trace),
-        Err(TraceFault::Unread { line }) => at_trace_fault(alloc, b"plain", line),
+        Err(TraceFault::Fault { line, kind }) => at_trace_fault(alloc, kind, line),
         Err(TraceFault::Memory) => Err(Memory),
     }
 }

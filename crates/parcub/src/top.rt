@@ -1,12 +1,13 @@
 //! The top call: words, a shelf and a sink in, a status out. It loads the files of the words in their order, makes its
 //! whole answer, and then writes it, so want of memory and a failure of the shelf leave nothing written.
 
-ghost use Rattle.std.specs.Prelude.{◌≡◌, ◌≢◌, ◌⊎◌, ℕ, List, map, IfOk, IsErrOf};
+ghost use Rattle.std.specs.Prelude.{◌≡◌, ◌≢◌, ◌⊎◌, ℕ, List, true, false, map, IfOk, IsErrOf};
 ghost use Rattle.io_edge.specs.Faults.{Rose};
 ghost use Rattle.io_edge.specs.Shelf.{AsksFor};
 ghost use Rattle.io_edge.specs.Sink.{with_bytes, WritesPart};
 ghost use Rattle.cub_words.specs.Asked.{asked_by};
-ghost use Rattle.parcub.specs.Answer.{AnswersNothing, AnswersRequest, IsAnswer, files_named, files_of};
+ghost use Rattle.cub_words.specs.Reading.{reading};
+ghost use Rattle.parcub.specs.Answer.{AnswersNothing, AnswersRequest, AnswersReading, IsAnswer, asks_more, files_named, files_of};
 ghost use Rattle.parcub.specs.declared.files.Stop.TheVariants as Stop;
 
 use crate::files::Stop;
@@ -46,16 +47,38 @@ fn command_answer<S: Shelf>(alloc: Global, command: Command, shelf: &mut S) -> R
     }
 }
 
-// The answer to the words.
-fn answered<S: Shelf>(alloc: Global, words: &[&str], shelf: &mut S) -> Result<Answer, Stop>
+// Whether the first word is a command of the table that is not built yet.
+fn asks_more(words: &[&str]) -> bool
+    ensures { result ≡ asks_more (map (λ word. word.now) words.now) }
+{
+    match words {
+        [] => false,
+        [word, ..] => *word == "check" || *word == "verify" || *word == "sample",
+    }
+}
+
+// The answer to words whose command is built, if they have one.
+fn built<S: Shelf>(alloc: Global, words: &[&str], shelf: &mut S) -> Result<Answer, Stop>
     ensures asked { AsksFor (S.asked shelf.old) (S.asked shelf.new) (files_of (map (λ word. word.now) words.now)) }
-    ensures answer { IfOk result (λ answer. IsAnswer (S.bytes_of shelf.old) (S.taken shelf.new) (map (λ word. word.now) words.now) answer.status answer.text) }
+    ensures answer { IfOk result (λ answer. AnswersReading (S.bytes_of shelf.old) (S.taken shelf.new) (reading (map (λ word. word.now) words.now)) answer.status answer.text) }
     ensures failed { IsErrOf result Stop.Failed → Rose (S.faults shelf.old) (S.faults shelf.new) }
 {
     match read(words) {
         Ok(command) => command_answer(alloc, command, shelf),
         Err(fault) => Ok(at_words_fault(alloc, fault)?),
     }
+}
+
+// The answer to the words.
+fn answered<S: Shelf>(alloc: Global, words: &[&str], shelf: &mut S) -> Result<Answer, Stop>
+    ensures asked { AsksFor (S.asked shelf.old) (S.asked shelf.new) (files_of (map (λ word. word.now) words.now)) }
+    ensures answer { IfOk result (λ answer. IsAnswer (S.bytes_of shelf.old) (S.taken shelf.new) (map (λ word. word.now) words.now) answer.status answer.text) }
+    ensures failed { IsErrOf result Stop.Failed → Rose (S.faults shelf.old) (S.faults shelf.new) }
+{
+    if asks_more(words) {
+        return Ok(not_built(alloc)?);
+    }
+    built(alloc, words, shelf)
 }
 
 /// Answers the words, which stand without the program's own name, and gives the status: 0 where a protocol is printed or a
