@@ -1,5 +1,5 @@
 -- What a command asks for, in plain values.
-use Rattle.std.specs.Prelude.{Result, Ok, Err}
+use Rattle.std.specs.Prelude.{◌≤◌, Result, Ok, Err}
 use Rattle.cub_words.specs.declared.request.Command.{Command}
 use Rattle.cub_words.specs.declared.request.WordsFault.{WordsFault}
 use Rattle.cub_words.specs.Reading.{Request, Check, Verify, Replay, Print, Sample}
@@ -14,3 +14,11 @@ asked_by (Command.Sample levels budget workers) = Sample levels budget.cubes bud
 abbrev pub asked : Result Command WordsFault → Result Request WordsFault
 asked (Ok command) = Ok (asked_by command)
 asked (Err e) = Err e
+
+-- the number of levels is one that there may be
+abbrev pub HasLevels : Command → Type 0
+HasLevels (Command.Check file budget workers format) = Unit {0}
+HasLevels (Command.Verify file cert) = Unit {0}
+HasLevels (Command.Replay file trace) = Unit {0}
+HasLevels (Command.Print file) = Unit {0}
+HasLevels (Command.Sample levels budget workers) = (2 ≤ levels) × (levels ≤ 63)

@@ -5,7 +5,7 @@ ghost use Rattle.std.specs.Prelude.{◌≡◌, ◌≤◌, ℕ, List, [], ◌∷�
 ghost use Rattle.cub_words.specs.Words.{is_marked, sign_at, name_part, value_part};
 ghost use Rattle.cub_words.specs.Given.{IsLawful, nothing_given};
 ghost use Rattle.cub_words.specs.Reading.{fault, valued, with_option, with_marked, with_name, step, ended, read_from, reading, request_of, word_at, value_of, Request, does_wait};
-ghost use Rattle.cub_words.specs.Asked.{asked_by, asked};
+ghost use Rattle.cub_words.specs.Asked.{asked_by, asked, HasLevels};
 ghost use Rattle.cub_words.specs.declared.table.OptionName.TheVariants as OptionName;
 ghost use Rattle.cub_words.specs.declared.request.WordsKind.TheVariants.{U1, U2, U3, U4, U5, U6, U7, U8, U9};
 
@@ -248,7 +248,9 @@ fn format_of(given: &Given) -> u8
 
 fn levels_of(given: &Given) -> u8
     requires { IsLawful given.now }
-    ensures { result ≡ unwrap_or given.now.levels 2 }
+    ensures value { result ≡ unwrap_or given.now.levels 2 }
+    ensures least { 2 ≤ result }
+    ensures greatest { result ≤ 63 }
 {
     given.levels.unwrap_or(2) as u8
 }
@@ -256,7 +258,8 @@ fn levels_of(given: &Given) -> u8
 // The command with what was given.
 fn request_of<'a>(command: CommandName, words: &[&'a str], given: &Given) -> Command<'a>
     requires { IsLawful given.now }
-    ensures { asked_by result ≡ request_of command (map (λ word. word.now) words.now) given.now }
+    ensures value { asked_by result ≡ request_of command (map (λ word. word.now) words.now) given.now }
+    ensures levels { HasLevels result }
 {
     let first = word_at(words, given.first);
     let second = word_at(words, given.second);
@@ -288,7 +291,8 @@ fn request_of<'a>(command: CommandName, words: &[&'a str], given: &Given) -> Com
 /// is answered; for one option the order is: no option of any command, not of this command, given before, no value, no
 /// lawful value.
 pub fn read<'a>(words: &[&'a str]) -> Result<Command<'a>, WordsFault>
-    ensures { asked result ≡ reading (map (λ word. word.now) words.now) }
+    ensures value { asked result ≡ reading (map (λ word. word.now) words.now) }
+    ensures levels { IfOk result HasLevels }
 {
     let [name, rest @ ..] = words else {
         return Err(WordsFault {

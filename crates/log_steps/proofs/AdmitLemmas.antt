@@ -1,8 +1,6 @@
 -- Steps of admitting a list.
-use Rattle.std.proofs.Common.{◌≡◌, ◌⊎◌, ◌↔◌, ℕ, zero, suc, ◌+◌, ◌<◌, ◌≤◌, Bool, true, false, List, [], ◌∷◌, ◌++◌, map, length, get_or, take, drop, refl, sym, ap, ◌∙◌, subst, arith, inl, inr, append_assoc, append-nil, take-append-drop}
-use Rattle.std.specs.Prelude.{IsTrue, All}
-use Rattle.std.proofs.lemmas.Bool.{cases_lt}
-use Rattle.std.proofs.lemmas.List.{take_more, take_all, drop_more, drop_all, length-map, length-append}
+use Rattle.std.proofs.Common.{◌≡◌, ◌⊎◌, ℕ, ◌+◌, ◌<◌, ◌≤◌, Bool, true, false, List, [], ◌∷◌, ◌++◌, map, length, get_or, take, drop, refl, sym, ap, ◌∙◌, subst, arith, inl, inr, append-nil, take-append-drop}
+use Rattle.std.proofs.lemmas.List.{take_more, take_all, drop_more, length-append}
 use Rattle.cub_proto.specs.declared.protocol.Protocol.{Protocol}
 use Rattle.cub_cube.specs.declared.cube.Cube.{Cube}
 use Rattle.cub_cube.specs.Cover.{IsCovered}
@@ -13,7 +11,7 @@ use Rattle.log_form.specs.Pieces.{IsFit, widest, greatest_asked}
 use Rattle.log_form.specs.Forms.{IsForm}
 use Rattle.log_form.specs.Legal.{IsAdded, Adds}
 use Rattle.log_steps.specs.declared.judgement.Pick.{Pick}
-use Rattle.log_steps.specs.Judged.{added_of, pick_cubes, IsExact, AddsSoFar, ArePicks}
+use Rattle.log_steps.specs.Judged.{added_of, pick_cubes, IsExact}
 use Rattle.log_steps.specs.Admitted.{no_added, AddsSome, SomeSoFar, AreAdmitted, IsStopped, IsFirstUnfit, AreAllAdmitted, AdmitsPiece}
 use Rattle.log_steps.specs.declared.admitting.Step.{Step}
 use Rattle.log_steps.proofs.JudgeLemmas.{one_more, more_picks, more_cubes, pushed_all, adds_past, adds_over, adds_one, adds_all}

@@ -1,5 +1,5 @@
 -- Lists of added cubes that are given, and not made.
-use Rattle.std.specs.Prelude.{◌≡◌, ◌⊎◌, ℕ, ◌+◌, ◌<◌, ◌≤◌, Bool, true, false, List, [], ◌∷◌, ◌++◌, map, length, take, slice_index_or, IsTrue, All}
+use Rattle.std.specs.Prelude.{◌≡◌, ◌⊎◌, ℕ, ◌+◌, ◌<◌, ◌≤◌, Bool, false, List, [], ◌∷◌, ◌++◌, map, length, take, slice_index_or, IsTrue, All}
 use Rattle.cub_proto.specs.declared.protocol.Protocol.{Protocol}
 use Rattle.cub_cube.specs.declared.cube.Cube.{Cube}
 use Rattle.cub_cube.specs.Cover.{IsCovered}

@@ -92,7 +92,8 @@ pub trait Expands<M: PreImages>: Decisions {
         ensures none { IfOk result (λ walk. given walk protocol.now cube.now []) }
         ensures made { Self.made_for self.new protocol.now };
 
-    /// The next piece; none where all were given. After want of memory the walk is to be dropped.
+    /// The next piece of the cube that the walk goes through; none where all were given. After want of memory the walk is
+    /// to be dropped.
     fn next(
         &mut self,
         protocol: &Protocol,
@@ -101,6 +102,7 @@ pub trait Expands<M: PreImages>: Decisions {
     ) -> Result<Option<Cube>, Memory>
         requires made { Self.made_for self.old protocol.now }
         requires fit { IsExpandable protocol.now cube.now }
+        requires walk { (done : List Cube) × given walk.old protocol.now cube.now done }
         ensures piece { IfOk result (λ next. IfSome next (λ x. (done : List Cube) → given walk.old protocol.now cube.now done → given walk.new protocol.now cube.now (done ++ x ∷ []))) }
         ensures askable { IfOk result (λ next. IfSome next (λ x. IsAskable protocol.now x)) }
         ensures less { IfOk result (λ next. IfSome next (λ _. left walk.new < left walk.old)) }

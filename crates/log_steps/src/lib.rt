@@ -7,6 +7,9 @@ mod deciding;
 
 pub use deciding::{Decisions, Expands};
 
+// The theory as what decides.
+mod scratch;
+
 // Judgements of nodes.
 mod judgement;
 

@@ -1,5 +1,6 @@
 pub mod Asked
 pub mod Telling
 pub mod Lawful
+pub mod Weaker
 pub mod OneProtocol
 pub mod OneAnswer

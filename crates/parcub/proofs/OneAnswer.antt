@@ -18,9 +18,19 @@ use Rattle.answer_lines.specs.Codes.{text_code, trace_code}
 use Rattle.answer_lines.specs.Lines.{place_line, form_line, refusal_line}
 use Rattle.parcub.specs.Files.{Told, Answers, Gave, IsTextFault, IsRead, AnswersFile, protocol_limit, result_limit}
 use Rattle.parcub.specs.Replays.{IsUnread, IsJudged, Accepts, Refuses, AnswersTrace}
+use Rattle.parcub.specs.Verifies.{AnswersNamed}
+use Rattle.verify_answers.specs.Verified.{AnswersCertificate}
+use Rattle.verify_answers.proofs.OneVerdict.{one_answer as one_certificate}
 use Rattle.parcub.specs.Answer.{AnswersPrint, AnswersReading, files_read}
+use Rattle.parcub.specs.Checks.{AnswersCheckBy, AnswersSampleBy}
 use Rattle.parcub.specs.Laws.{AreTold, OneAnswer}
-use Rattle.parcub.proofs.OneProtocol.{one_text_protocol, one_text_fault, no_text_fault}
+use Rattle.parcub.proofs.Weaker.{file_weaker}
+use Rattle.parcub.proofs.OneProtocol.{same_parts, one_text_protocol, one_text_fault, no_text_fault}
+use Rattle.check_answers.specs.Checked.{TellsNoRun}
+use Rattle.check_answers.specs.Sampled.{TellsLine}
+use Rattle.check_answers.proofs.OneTold.{budget_same, one_line, one_answer as one_checked}
+use Rattle.crew.specs.Search.{IsSearch}
+use Rattle.crew.proofs.OneLog.{one_log}
 
 abbrev Same : ℕ → ℕ → List ℕ → List ℕ → Type 0
 Same status other text another = (status ≡ other) × (text ≡ another)
@@ -105,31 +115,66 @@ module _ (p : Protocol) where
       (subst (λ given. IsUnread p given status text ⊎ IsJudged p given status text) (gave_told told name bytes is result_limit a.bytes a.gave) a.answer)
       (subst (λ given. IsUnread p given more another ⊎ IsJudged p given more another) (gave_told told name bytes is result_limit b.bytes b.gave) b.answer)
 
+  one_named : (told : Told) (name bytes : List ℕ) → told name ≡ Some bytes → (taken later status more : ℕ) (text another : List ℕ)
+      → AnswersNamed told taken name p status text → AnswersNamed told later name p more another → Same status more text another
+  one_named told name bytes is taken later status more text another (inl a) (inl b) = (a.1 ∙ sym b.1, a.2 ∙ sym b.2)
+  one_named told name bytes is taken later status more text another (inl a) (inr b) = absurd (not_over told name bytes is result_limit taken b.bytes a.0 b.gave)
+  one_named told name bytes is taken later status more text another (inr a) (inl b) = absurd (not_over told name bytes is result_limit later a.bytes b.0 a.gave)
+  one_named told name bytes is taken later status more text another (inr a) (inr b) =
+      one_certificate p bytes status more text another
+      (subst (λ given. AnswersCertificate p given status text) (gave_told told name bytes is result_limit a.bytes a.gave) a.answer)
+      (subst (λ given. AnswersCertificate p given more another) (gave_told told name bytes is result_limit b.bytes b.gave) b.answer)
+
 one_print : (p : Protocol) (status more : ℕ) (text another : List ℕ) → AnswersPrint p status text → AnswersPrint p more another → Same status more text another
 one_print p status more text another a b = (a.0 ∙ sym b.0, a.1 ∙ sym b.1)
+
+-- ---- searches
+module _ (cubes width format : ℕ) where
+  abbrev ChecksQuietly : Protocol → Answers
+  ChecksQuietly p status text = TellsNoRun status × AnswersCheckBy cubes width format p status text
+
+  one_check : (p : Protocol) (status more : ℕ) (text another : List ℕ) → ChecksQuietly p status text → AnswersCheckBy cubes width format p more another → Same status more text another
+  one_check p status more text another (quiet, (a, numbers, first)) (b, others, second) =
+      one_checked p a b format status more text another (numbers.0 ∙ sym others.0) (numbers.1 ∙ sym others.1) quiet first second
+
+one_sample : (levels cubes width status more : ℕ) (text another : List ℕ) → AnswersSampleBy levels cubes width status text → AnswersSampleBy levels cubes width more another → Same status more text another
+one_sample levels cubes width status more text another (a, numbers, first) (b, others, second) =
+    let x = first.is_sample in
+    let y = second.is_sample in
+    let protocols : first.protocol ≡ second.protocol =
+    same_parts first.protocol second.protocol (x.sorts ∙ sym y.sorts) (x.globals ∙ sym y.globals) (x.arrays ∙ sym y.arrays) (x.start ∙ sym y.start) (x.goals ∙ sym y.goals) (x.transitions ∙ sym y.transitions) in
+    let budgets : a ≡ b = budget_same a b (numbers.0 ∙ sym others.0) (numbers.1 ∙ sym others.1) in
+    let logs : first.log ≡ second.log =
+    one_log second.protocol b first.log second.log (subst (λ p. IsSearch p b first.log) protocols (subst (λ budget. IsSearch first.protocol budget first.log) budgets first.search)) second.search in
+    one_line levels second.log status more text another (subst (λ log. TellsLine levels log status text) logs first.tells) second.tells
 
 told_some : {A : Type 0} (o : Option A) → is_some o ≡ true → (x : A) × (o ≡ Some x)
 told_some None h = absurd (let no : false ≡ true = h in cc)
 told_some (Some x) h = (x, refl)
 
-one_request : (told : Told) (taken later status more : ℕ) (text another : List ℕ) (r : Result Request WordsFault) → AreTold told (files_read r)
+one_request : (told : Told) (taken later status more : ℕ) (text another : List ℕ) (r : Result Request WordsFault) → AreTold told (files_read r) → TellsNoRun status
     → AnswersReading told taken r status text → AnswersReading told later r more another → Same status more text another
-one_request told taken later status more text another (Ok (Print file)) are a b =
+one_request told taken later status more text another (Ok (Print file)) are quiet a b =
     let known = told_some (told file) (All-head (λ name. IsTrue (is_some (told name))) file [] are) in
     one_file AnswersPrint AnswersPrint one_print told file known.0 known.1 taken later status more text another a b
-one_request told taken later status more text another (Ok (Replay file trace)) are a b =
+one_request told taken later status more text another (Ok (Replay file trace)) are quiet a b =
     let test : List ℕ → Type 0 = λ name. IsTrue (is_some (told name)) in
     let known = told_some (told file) (All-head test file (trace ∷ []) are) in
     let second = told_some (told trace) (All-head test trace [] (All-tail test file (trace ∷ []) are)) in
     one_file (AnswersTrace told taken trace) (AnswersTrace told later trace)
     (λ p s m t u x y. one_trace p told trace second.0 second.1 taken later s m t u x y) told file known.0 known.1 taken later status more text another a b
-one_request told taken later status more text another (Ok (Check file cubes width workers format)) are a b = (a.0 ∙ sym b.0, a.1 ∙ sym b.1)
-one_request told taken later status more text another (Ok (Verify file cert)) are a b = (a.0 ∙ sym b.0, a.1 ∙ sym b.1)
-one_request told taken later status more text another (Ok (Sample levels cubes width workers)) are a b = (a.0 ∙ sym b.0, a.1 ∙ sym b.1)
-one_request told taken later status more text another (Err fault) are a b = (a.0 ∙ sym b.0, a.1 ∙ sym b.1)
+one_request told taken later status more text another (Ok (Check file cubes width workers format)) are quiet a b =
+    let known = told_some (told file) (All-head (λ name. IsTrue (is_some (told name))) file [] are) in
+    one_file (ChecksQuietly cubes width format) (AnswersCheckBy cubes width format) (one_check cubes width format) told file known.0 known.1 taken later status more text another
+    (file_weaker told taken file (AnswersCheckBy cubes width format) (ChecksQuietly cubes width format) status text (λ p answer. (quiet, answer)) a) b
+one_request told taken later status more text another (Ok (Verify file cert)) are quiet a b =
+    let test : List ℕ → Type 0 = λ name. IsTrue (is_some (told name)) in
+    let known = told_some (told file) (All-head test file (cert ∷ []) are) in
+    let second = told_some (told cert) (All-head test cert [] (All-tail test file (cert ∷ []) are)) in
+    one_file (AnswersNamed told taken cert) (AnswersNamed told later cert)
+    (λ p s m t u x y. one_named p told cert second.0 second.1 taken later s m t u x y) told file known.0 known.1 taken later status more text another a b
+one_request told taken later status more text another (Ok (Sample levels cubes width workers)) are quiet a b = one_sample levels cubes width status more text another a b
+one_request told taken later status more text another (Err fault) are quiet a b = (a.0 ∙ sym b.0, a.1 ∙ sym b.1)
 
 pub one_answer : OneAnswer
-one_answer told words are taken later status more text another (inl a) (inl b) = (a.1.0 ∙ sym b.1.0, a.1.1 ∙ sym b.1.1)
-one_answer told words are taken later status more text another (inl a) (inr b) = absurd (let yes = a.0 in let no = b.0 in cc)
-one_answer told words are taken later status more text another (inr a) (inl b) = absurd (let no = a.0 in let yes = b.0 in cc)
-one_answer told words are taken later status more text another (inr a) (inr b) = one_request told taken later status more text another (reading words) are a.1 b.1
+one_answer told words are taken later status more text another quiet a b = one_request told taken later status more text another (reading words) are quiet a b

@@ -1,5 +1,5 @@
 -- What the program answers to its words.
-use Rattle.std.specs.Prelude.{◌≡◌, ◌⊎◌, ℕ, Bool, true, false, ◌||◌, List, [], ◌∷◌, Result, Ok, Err, codes, bytes_eq}
+use Rattle.std.specs.Prelude.{◌≡◌, ℕ, List, [], ◌∷◌, Result, Ok, Err}
 use Rattle.cub_proto.specs.declared.protocol.Protocol.{Protocol}
 use Rattle.cub_words.specs.declared.request.WordsFault.{WordsFault}
 use Rattle.cub_words.specs.Reading.{Request, reading}
@@ -10,6 +10,8 @@ use Rattle.answer_lines.specs.Codes.{words_code}
 use Rattle.answer_lines.specs.Lines.{words_line}
 use Rattle.parcub.specs.Files.{Told, Answers, AnswersFile}
 use Rattle.parcub.specs.Replays.{AnswersTrace}
+use Rattle.parcub.specs.Verifies.{AnswersNamed}
+use Rattle.parcub.specs.Checks.{AnswersCheckBy, AnswersSampleBy}
 
 -- `print` answers status 0 and the canonical text
 abbrev pub AnswersPrint : Protocol → Answers
@@ -19,38 +21,28 @@ AnswersPrint p status text = (status ≡ 0) × (text ≡ spelled (protocol_marks
 abbrev pub AnswersWords : List ℕ → ℕ → Answers
 AnswersWords code number status text = (status ≡ 5) × (text ≡ words_line code number)
 
--- a command that is not built yet is answered as if it were none
-abbrev pub AnswersNothing : Answers
-AnswersNothing status text = AnswersWords (codes "U2") 1 status text
-
 -- what a command answers, with what the shelf tells of names, and how many bytes the last load took
 abbrev pub AnswersRequest : Told → ℕ → Request → Answers
 AnswersRequest told taken (Print file) = AnswersFile told taken file AnswersPrint
 AnswersRequest told taken (Replay file trace) = AnswersFile told taken file (AnswersTrace told taken trace)
-AnswersRequest told taken (Check file cubes width workers format) = AnswersNothing
-AnswersRequest told taken (Verify file cert) = AnswersNothing
-AnswersRequest told taken (Sample levels cubes width workers) = AnswersNothing
+AnswersRequest told taken (Check file cubes width workers format) = AnswersFile told taken file (AnswersCheckBy cubes width format)
+AnswersRequest told taken (Verify file cert) = AnswersFile told taken file (AnswersNamed told taken cert)
+AnswersRequest told taken (Sample levels cubes width workers) = AnswersSampleBy levels cubes width
 
 abbrev pub AnswersReading : Told → ℕ → Result Request WordsFault → Answers
 AnswersReading told taken (Ok request) = AnswersRequest told taken request
 AnswersReading told taken (Err fault) = AnswersWords (words_code fault.kind) fault.word
 
--- the first word is a command of the table that is not built yet
-abbrev pub asks_more : List (List ℕ) → Bool
-asks_more [] = false
-asks_more (word ∷ words) = bytes_eq word (codes "check") || bytes_eq word (codes "verify") || bytes_eq word (codes "sample")
-
--- the answer to words: a command that is not built yet is refused, whatever words follow
+-- the answer to words
 abbrev pub IsAnswer : Told → ℕ → List (List ℕ) → Answers
-IsAnswer told taken words status text =
-    ((asks_more words ≡ true) × AnswersNothing status text) ⊎ ((asks_more words ≡ false) × AnswersReading told taken (reading words) status text)
+IsAnswer told taken words = AnswersReading told taken (reading words)
 
--- the files of a command, in their order; a command that is not built yet asks for none
+-- the files of a command, in their order
 abbrev pub files_named : Request → List (List ℕ)
 files_named (Print file) = file ∷ []
 files_named (Replay file trace) = file ∷ trace ∷ []
-files_named (Check file cubes width workers format) = []
-files_named (Verify file cert) = []
+files_named (Check file cubes width workers format) = file ∷ []
+files_named (Verify file cert) = file ∷ cert ∷ []
 files_named (Sample levels cubes width workers) = []
 
 abbrev pub files_read : Result Request WordsFault → List (List ℕ)

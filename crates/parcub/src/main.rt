@@ -7,12 +7,16 @@ mod top;
 // Laws of the answers.
 mod laws;
 
-// Its parts: the texts of protocols, `print`, `replay`.
+// Its parts: the texts of protocols, `check` and `sample`, `print`, `replay`, `verify`.
+mod checks;
 mod files;
 mod prints;
 mod replays;
 #[cfg(test)]
+mod rows;
+#[cfg(test)]
 mod tests;
+mod verifies;
 
 use io_edge::{FileShelf, OutSink};
 use std::process::ExitCode;

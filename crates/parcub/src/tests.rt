@@ -98,11 +98,11 @@ fn words(rt: HostRuntime) -> Result<(), Fail> {
     answer_is(
         &rt,
         alloc,
-        ["check", "p"].as_slice(),
+        ["verify", "p"].as_slice(),
         "",
         none,
         5,
-        "WORDS U2 at 1\n",
+        "WORDS U3 at 3\n",
     )?;
     answer_is(
         &rt,

@@ -1,39 +1,27 @@
 //! The top call: words, a shelf and a sink in, a status out. It loads the files of the words in their order, makes its
 //! whole answer, and then writes it, so want of memory and a failure of the shelf leave nothing written.
 
-ghost use Rattle.std.specs.Prelude.{◌≡◌, ◌≢◌, ◌⊎◌, ℕ, List, true, false, map, IfOk, IsErrOf};
+ghost use Rattle.std.specs.Prelude.{◌≡◌, ◌≢◌, ◌⊎◌, ℕ, List, map, IfOk, IsErrOf};
 ghost use Rattle.io_edge.specs.Faults.{Rose};
 ghost use Rattle.io_edge.specs.Shelf.{AsksFor};
 ghost use Rattle.io_edge.specs.Sink.{with_bytes, WritesPart};
-ghost use Rattle.cub_words.specs.Asked.{asked_by};
-ghost use Rattle.cub_words.specs.Reading.{reading};
-ghost use Rattle.parcub.specs.Answer.{AnswersNothing, AnswersRequest, AnswersReading, IsAnswer, asks_more, files_named, files_of};
+ghost use Rattle.cub_words.specs.Asked.{asked_by, HasLevels};
+ghost use Rattle.parcub.specs.Answer.{AnswersRequest, IsAnswer, files_named, files_of};
 ghost use Rattle.parcub.specs.declared.files.Stop.TheVariants as Stop;
 
+use crate::checks::{checked_answer, sampled_answer};
 use crate::files::Stop;
 use crate::prints::print_answer;
 use crate::replays::replay_answer;
+use crate::verifies::verify_answer;
 use answer_lines::{Answer, at_words_fault};
-use cub_base::Memory;
-use cub_words::{Command, WordsFault, WordsKind, read};
+use cub_words::{Command, read};
 use io_edge::{Shelf, Sink, put_all};
 use std::alloc::Global;
 
-// The answer to a command that is not built yet.
-fn not_built(alloc: Global) -> Result<Answer, Memory>
-    ensures { IfOk result (λ answer. AnswersNothing answer.status answer.text) }
-{
-    at_words_fault(
-        alloc,
-        WordsFault {
-            word: 1,
-            kind: WordsKind::U2,
-        },
-    )
-}
-
 // The answer to a command.
 fn command_answer<S: Shelf>(alloc: Global, command: Command, shelf: &mut S) -> Result<Answer, Stop>
+    requires levels { HasLevels command }
     ensures asked { AsksFor (S.asked shelf.old) (S.asked shelf.new) (files_named (asked_by command.entry)) }
     ensures answer { IfOk result (λ answer. AnswersRequest (S.bytes_of shelf.old) (S.taken shelf.new) (asked_by command.entry) answer.status answer.text) }
     ensures failed { IsErrOf result Stop.Failed → Rose (S.faults shelf.old) (S.faults shelf.new) }
@@ -41,31 +29,14 @@ fn command_answer<S: Shelf>(alloc: Global, command: Command, shelf: &mut S) -> R
     match command {
         Command::Print { file } => print_answer(alloc, file, shelf),
         Command::Replay { file, trace } => replay_answer(alloc, file, trace, shelf),
-        Command::Check { .. } => Ok(not_built(alloc)?),
-        Command::Verify { .. } => Ok(not_built(alloc)?),
-        Command::Sample { .. } => Ok(not_built(alloc)?),
-    }
-}
-
-// Whether the first word is a command of the table that is not built yet.
-fn asks_more(words: &[&str]) -> bool
-    ensures { result ≡ asks_more (map (λ word. word.now) words.now) }
-{
-    match words {
-        [] => false,
-        [word, ..] => *word == "check" || *word == "verify" || *word == "sample",
-    }
-}
-
-// The answer to words whose command is built, if they have one.
-fn built<S: Shelf>(alloc: Global, words: &[&str], shelf: &mut S) -> Result<Answer, Stop>
-    ensures asked { AsksFor (S.asked shelf.old) (S.asked shelf.new) (files_of (map (λ word. word.now) words.now)) }
-    ensures answer { IfOk result (λ answer. AnswersReading (S.bytes_of shelf.old) (S.taken shelf.new) (reading (map (λ word. word.now) words.now)) answer.status answer.text) }
-    ensures failed { IsErrOf result Stop.Failed → Rose (S.faults shelf.old) (S.faults shelf.new) }
-{
-    match read(words) {
-        Ok(command) => command_answer(alloc, command, shelf),
-        Err(fault) => Ok(at_words_fault(alloc, fault)?),
+        Command::Check {
+            file,
+            budget,
+            format,
+            ..
+        } => checked_answer(alloc, file, budget, format, shelf),
+        Command::Verify { file, cert } => verify_answer(alloc, file, cert, shelf),
+        Command::Sample { levels, budget, .. } => Ok(sampled_answer(alloc, levels, budget)?),
     }
 }
 
@@ -75,15 +46,16 @@ fn answered<S: Shelf>(alloc: Global, words: &[&str], shelf: &mut S) -> Result<An
     ensures answer { IfOk result (λ answer. IsAnswer (S.bytes_of shelf.old) (S.taken shelf.new) (map (λ word. word.now) words.now) answer.status answer.text) }
     ensures failed { IsErrOf result Stop.Failed → Rose (S.faults shelf.old) (S.faults shelf.new) }
 {
-    if asks_more(words) {
-        return Ok(not_built(alloc)?);
+    match read(words) {
+        Ok(command) => command_answer(alloc, command, shelf),
+        Err(fault) => Ok(at_words_fault(alloc, fault)?),
     }
-    built(alloc, words, shelf)
 }
 
-/// Answers the words, which stand without the program's own name, and gives the status: 0 where a protocol is printed or a
-/// trace accepted, 4 where the protocol's text is refused, 5 where the words are, 6 where the shelf fails, 7 where the sink
-/// does, 8 where memory runs out, and 9 where the trace is refused.
+/// Answers the words, which stand without the program's own name, and gives the status: 0 where the search proves the
+/// protocol safe, a protocol is printed, a certificate or a trace accepted, 1 where it finds a run to an unsafe state, 2 where
+/// the run has crashes, 3 where it ends for want of budget, 4 where the protocol's text is refused, 5 where the words are,
+/// 6 where the shelf fails, 7 where the sink does, 8 where memory runs out, and 9 where the certificate or trace is refused.
 pub fn run_plain<S: Shelf, K: Sink>(alloc: Global, words: &[&str], shelf: &mut S, out: &mut K) -> u8
     // The files of the words alone are asked for, in their order, each at most once.
     ensures asked { AsksFor (S.asked shelf.old) (S.asked shelf.new) (files_of (map (λ word. word.now) words.now)) }

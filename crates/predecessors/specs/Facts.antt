@@ -1,19 +1,18 @@
 -- What the log asks of pieces, of the pieces by choices.
-use Rattle.std.proofs.Common.{◌≡◌, ℕ, ◌+◌, ◌≤◌, List, [], ◌∷◌, map, sym, ap, subst, ◌∙◌, arith}
+use Rattle.std.proofs.Common.{◌≡◌, ◌+◌, List, sym, ap, subst, ◌∙◌, arith}
 use Rattle.std.specs.Prelude.{IsTrue, Contains}
 use Rattle.std.specs.List.{list_all}
 use Rattle.cub_base.proofs.Members.{Has, contains_Has, has_Contains, map_has, has_map}
 use Rattle.cub_proto.specs.declared.protocol.Protocol.{Protocol}
 use Rattle.cub_proto.specs.StateOf.{signature_of}
-use Rattle.cub_proto.specs.Fits.{literal_fits, is_bounded, greatest_bound}
+use Rattle.cub_proto.specs.Fits.{literal_fits}
 use Rattle.cub_cube.specs.declared.cube.Cube.{Cube}
 use Rattle.cub_cube.specs.Meaning.{IsConsistent}
 use Rattle.cub_cube.specs.Normal.{is_normal}
-use Rattle.cub_cube.specs.Cover.{IsCovered}
 use Rattle.cub_cube.proofs.Form.{form_is_normal}
 use Rattle.cub_cube.proofs.KeptLemmas.{kept_unique, kept_from, kept_has}
 use Rattle.piece_choices.specs.declared.piece.Piece.{Piece}
-use Rattle.piece_choices.specs.Pieces.{candidates, IsPossible, ArePieces}
+use Rattle.piece_choices.specs.Pieces.{candidates, IsPossible}
 use Rattle.piece_choices.specs.Conjunction.{conjunction}
 use Rattle.piece_choices.proofs.Candidates.{candidate_is}
 use Rattle.piece_choices.proofs.Fitting.{its_transition, selection_fits}

@@ -1,5 +1,6 @@
 pub mod Fronts
 pub mod Placed
+pub mod Alone
 pub mod Retiring
 pub mod Bits
 pub mod Changed

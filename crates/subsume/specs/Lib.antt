@@ -1,4 +1,5 @@
 pub mod Injections
+pub mod Standing
 pub mod Ready
 pub mod Scanned
 pub mod Marks

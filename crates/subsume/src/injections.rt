@@ -2,6 +2,10 @@
 //! of the big one. Places are taken in order, and each is tried at the free places of the small cube in order, so the first
 //! injection that is found is the least. A literal is asked as soon as its last place is taken, so that a wrong place is
 //! given up at once. The small cube is closed beforehand, once for all questions.
+//!
+//! A late place whose own literals follow nowhere would be found out again behind each way to put the earlier ones, which
+//! are as many as there are injections. So a big cube of more than a few places is asked first whether each place can stand
+//! somewhere by itself.
 
 ghost use Rattle.std.specs.Prelude.{◌≡◌, ◌≢◌, ◌↔◌, ◌+◌, ◌<◌, ◌≤◌, max, List, ℕ, length, take, slice_index, All, Contains, IsTrue, false};
 ghost use Rattle.std.specs.List.{list_all};
@@ -14,9 +18,14 @@ ghost use Rattle.theory_laws.specs.Entailed.{Entails};
 ghost use Rattle.subsume.specs.Injections.{term_reach, process_side_reach, integer_side_reach, reach, LastFollow, IsPartial, IsWhole};
 ghost use Rattle.subsume.specs.Ready.{IsReady};
 
+use crate::implied::is_implied;
+use crate::standing::each_stands;
 use cub_cube::{Cube, renamed};
 use cub_proto::{ISide, Lit, PSide, Protocol, Term};
-use theory::{Scratch, follows};
+use theory::Scratch;
+
+// The greatest number of places that are put without asking first whether each can stand somewhere.
+const FEW_PLACES: u8 = 3;
 
 fn term_reach(term: Term) -> usize
     ensures { result ≡ term_reach term }
@@ -57,26 +66,6 @@ fn reach(lit: &Lit) -> usize
         ),
         Lit::Diff { a, b, .. } => integer_side_reach(*a).max(integer_side_reach(*b)),
     }
-}
-
-// Whether the small cube entails the literal.
-fn is_implied(
-    scratch: &mut Scratch,
-    protocol: &Protocol,
-    small: &Cube,
-    consistent: bool,
-    lit: &Lit,
-) -> bool
-    requires ready { IsReady protocol.now small.now consistent scratch.old }
-    requires fits { IsTrue (literal_fits (signature_of protocol.now) small.now.width lit.now) }
-    ensures ready { IsReady protocol.now small.now consistent scratch.new }
-    ensures count { scratch.new.tests ≡ scratch.old.tests }
-    ensures exact { IsTrue result ↔ Entails protocol.now small.now.width small.now.lits lit.now }
-{
-    if !consistent {
-        return true;
-    }
-    follows(scratch, protocol, small.width, small.lits.as_slice(), lit)
 }
 
 // Whether it entails the literal at the places, if the last of them is the literal's last place.
@@ -271,6 +260,9 @@ pub fn least_injection(
         big.lits.as_slice(),
         &[],
     ) {
+        return false;
+    }
+    if big.width > FEW_PLACES && !each_stands(scratch, protocol, small, consistent, big) {
         return false;
     }
     complete(scratch, protocol, small, consistent, big, places, 0)

@@ -1,6 +1,12 @@
 //! Covering of cubes, and lists of cubes that are searched for it.
 #![tactic(auto)]
 
+// What the small cube entails.
+mod implied;
+
+// Places that can stand somewhere by themselves.
+mod standing;
+
 // Injections of places.
 mod injections;
 

@@ -1,6 +1,6 @@
-use Rattle.std.proofs.Common.{◌≡◌, ◌<◌, ◌≤◌, length, take, sym, ap, subst, ◌∙◌, arith}
+use Rattle.std.proofs.Common.{◌≡◌, length, take, sym, ap, subst, ◌∙◌, arith}
 use Rattle.log_steps.specs.declared.admitting.Step.TheVariants.{Goes, Stops}
-use Rattle.log_steps.specs.Admitted.{AdmitsPiece, AreAdmitted, IsFirstUnfit}
+use Rattle.log_steps.specs.Admitted.{AdmitsPiece, IsFirstUnfit}
 use Rattle.log_steps.proofs.AdmitLemmas.{stopped, left_over, all_admitted, admitted_more, admitted_all, step_of}
 use Rattle.log_steps.proofs.admitting.admit_list.Goals as goal
 

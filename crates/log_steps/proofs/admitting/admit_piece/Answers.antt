@@ -1,4 +1,4 @@
-use Rattle.std.proofs.Common.{◌≡◌, refl, sym, subst, ◌∙◌, ap, false, length, get_or, ◌++◌, ◌∷◌, [], arith}
+use Rattle.std.proofs.Common.{◌≡◌, refl, sym, subst, ◌∙◌, ap, length, get_or, ◌++◌, ◌∷◌, [], arith}
 use Rattle.std.proofs.lemmas.List.{get_or_default}
 use Rattle.log_form.specs.declared.event.Added.{Added}
 use Rattle.log_form.specs.Pieces.{IsFit, widest, greatest_asked}

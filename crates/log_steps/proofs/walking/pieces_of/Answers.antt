@@ -1,8 +1,8 @@
-use Rattle.std.proofs.Common.{◌≡◌, ◌∙◌, ◌+◌, ◌++◌, ◌∷◌, [], ap, sym, refl, subst, length-append}
+use Rattle.std.proofs.Common.{◌∙◌, ◌+◌, ◌++◌, ◌∷◌, [], ap, sym, subst, length-append}
 use Rattle.std.specs.Prelude.{All}
 use Rattle.std.proofs.lemmas.List.Elements.{All-push}
 use Rattle.log_form.specs.declared.numbered.Numbered.{Numbered}
-use Rattle.log_form.specs.Numbering.{with_number, numbered}
+use Rattle.log_form.specs.Numbering.{with_number}
 use Rattle.log_form.specs.Pieces.{IsAskable}
 use Rattle.log_steps.proofs.JudgeLemmas.{numbered_more}
 use Rattle.log_steps.proofs.walking.pieces_of.Goals as goal

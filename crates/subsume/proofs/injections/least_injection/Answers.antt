@@ -20,3 +20,7 @@ returns-clause-found c h =
 
 pub returns-clause-none : goal.returns-clause-none
 returns-clause-none c h (r, covers) = c.complete.ensures.none h r (covers_whole c.args.protocol.now c.args.big.now c.args.small.now c.requires.fits r covers) refl
+
+pub returns-then-not-each_stands-clause-none : goal.returns-then-not-each_stands-clause-none
+returns-then-not-each_stands-clause-none c h (r, covers) =
+    c.each_stands.ensures.none c.if-not-each_stands.true r (covers_whole c.args.protocol.now c.args.big.now c.args.small.now c.requires.fits r covers)

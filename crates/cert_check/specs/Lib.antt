@@ -1,0 +1,9 @@
+pub mod First
+pub mod Keys
+pub mod Obligations
+pub mod Refusal
+pub mod Stand
+pub mod Injections
+pub mod Walked
+pub mod Named
+pub mod Listed

@@ -1,0 +1,3 @@
+pub mod Verdicts
+pub mod OneTold
+pub mod Telling

@@ -1,0 +1,4 @@
+pub mod Counted
+pub mod Asked
+pub mod Indexed
+pub mod Sealed

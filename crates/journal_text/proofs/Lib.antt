@@ -1,0 +1,16 @@
+pub mod WideNumbers
+pub mod ToldLaws
+pub mod FormLaws
+pub mod AddsLaws
+pub mod Steps
+pub mod ItemLaws
+pub mod Apart
+pub mod StuckLaws
+pub mod MarkLaws
+pub mod Joining
+pub mod EventLaws
+pub mod TextLaws
+pub mod BudgetLaws
+pub mod Takes
+pub mod OneLines
+pub mod Again

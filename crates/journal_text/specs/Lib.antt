@@ -1,0 +1,9 @@
+pub mod Text
+pub mod Lawful
+pub mod Numbers
+pub mod Told
+pub mod Form
+pub mod Items
+pub mod Place
+pub mod Ready
+pub mod Laws

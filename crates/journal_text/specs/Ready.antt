@@ -1,0 +1,63 @@
+-- The state of a reading behind a whole event, and what a fault there is.
+use Rattle.std.specs.Prelude.{◌≡◌, ℕ, ◌+◌, Bool, false, ◌==◌, if◌then◌else◌, List, length, Option, Some, None}
+use Rattle.cub_proto.specs.declared.protocol.Protocol.{Protocol}
+use Rattle.log_form.specs.declared.event.Added.{Added}
+use Rattle.log_form.specs.Pieces.{PieceRelation}
+use Rattle.log_form.specs.Log.{LogValue}
+use Rattle.text_lines.specs.Line.{line_at}
+use Rattle.journal_text.specs.declared.look.Look.{Look}
+use Rattle.journal_text.specs.declared.look.Look.TheVariants.{Formless, Faulty, Item, Expand, Roots, Closing}
+use Rattle.journal_text.specs.declared.fault.JournalFault.{JournalFault}
+use Rattle.journal_text.specs.Text.{expand_text}
+use Rattle.journal_text.specs.Items.{AreItemLines, IsNoItem}
+use Rattle.journal_text.specs.Place.{Place, Adding, event_of, Makes, TakesRoots, GoesOn, IsFaultOf}
+
+-- no line that says that the roots fill the log may stand next
+abbrev pub HasNoRoots : PieceRelation → Bool → LogValue → Option ℕ → List Added → List ℕ → Type 0
+HasNoRoots P full log node added rest = (line behind : List ℕ) (q : Place) → line_at rest ≡ Some (line, behind) → TakesRoots P full log node added line q → ⊥
+
+-- the log is made by the event whose lines were read last, and none of its added cubes stands next
+pub record IsReady (P : PieceRelation) (p : Protocol) (place : Place) (n : ℕ) (text : List ℕ) (full : Bool) (node : Option ℕ) (log : LogValue) (line : ℕ) (rest : List ℕ) : Type 0 where
+  pub old : LogValue
+  pub added : List Added
+  pub protocol : old.protocol ≡ p
+  pub makes : Makes P old (event_of node added) log
+  pub goes : GoesOn P p (Adding full old node added) line rest place n text
+  pub no_item : IsNoItem p node rest
+  pub no_roots : HasNoRoots P full old node added rest
+
+-- the kind of a fault behind a whole event
+abbrev pub whole_kind : Look → ℕ
+whole_kind Formless = 2
+whole_kind Faulty = 3
+whole_kind Item = 4
+whole_kind Expand = 4
+whole_kind Roots = 5
+whole_kind Closing = 5
+
+-- nothing was read of the roots
+abbrev pub is_nothing : Option ℕ → ℕ → Bool
+is_nothing None count = count == 0
+is_nothing (Some n) count = false
+
+-- that behind an event that lacks a piece, where perhaps nothing was read of the roots
+abbrev pub lacking_kind : Bool → Look → ℕ
+lacking_kind nothing Formless = 2
+lacking_kind nothing Faulty = 3
+lacking_kind nothing Item = 4
+lacking_kind nothing Expand = 4
+lacking_kind nothing Roots = if nothing then 5 else 4
+lacking_kind nothing Closing = 4
+
+-- where the expansion of the node stands next, behind a whole event, the expansion with these cubes makes the other log
+abbrev pub ExpandsTo : PieceRelation → Protocol → LogValue → ℕ → List Added → ℕ → List ℕ → LogValue → Type 0
+ExpandsTo P p log node items line rest next =
+    (place : Place) (n : ℕ) (text : List ℕ) (full : Bool) (before : Option ℕ) (here behind : List ℕ) → line_at here ≡ Some (expand_text node, behind)
+    → AreItemLines p (Some node) items behind rest → IsReady P p place n text full before log line here
+    → IsReady P p place n text full (Some node) next (line + 1 + length items) rest
+
+-- or the fault is that of the text
+abbrev pub ExpandsNot : PieceRelation → Protocol → LogValue → ℕ → List Added → ℕ → List ℕ → JournalFault → Type 0
+ExpandsNot P p log node items line rest fault =
+    (place : Place) (n : ℕ) (text : List ℕ) (full : Bool) (before : Option ℕ) (here behind : List ℕ) → line_at here ≡ Some (expand_text node, behind)
+    → AreItemLines p (Some node) items behind rest → IsReady P p place n text full before log line here → IsFaultOf P p place n text fault

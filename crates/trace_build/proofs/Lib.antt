@@ -1,0 +1,12 @@
+pub mod PickLemmas
+pub mod Places
+pub mod StartLemmas
+pub mod Seeking
+pub mod Refusing
+pub mod Finding
+pub mod WalkLemmas
+pub mod FreeLemmas
+pub mod Naming
+pub mod BuildLemmas
+pub mod Both
+pub mod OriginLemmas

@@ -1,0 +1,9 @@
+pub mod Living
+pub mod Killing
+pub mod Freed
+pub mod StandingLemmas
+pub mod ChainFits
+pub mod Chains
+pub mod Runs
+pub mod Few
+pub mod Fit

@@ -1,0 +1,5 @@
+pub mod Standing
+pub mod Blocked
+pub mod Chain
+pub mod Along
+pub mod Leads
