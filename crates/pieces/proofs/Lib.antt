@@ -9,3 +9,4 @@ pub mod Walking
 pub mod StepLists
 pub mod Beginning
 pub mod Gathering
+pub mod Raw

@@ -39,6 +39,11 @@ module _ {S : Type 0} (takes : S → Piece → S → Type 0) (j : Search) (d : D
       let here : piece_of n e c ≡ own_piece j d = ap (λ m. piece_of m e c) number ∙ ap (λ x. piece_of j.number x c) same ∙ ap (piece_of j.number d) is in
       hands_one (IsPossible j.protocol) takes (own_piece j d) old new (subst (λ (x : Cube). IsConsistent j.protocol x.width x.lits) is met) (subst (λ x. takes old x new) here took)
 
+  -- where it was taken
+  pub hands_taken : {T E : Type 0} (n : ℕ) (e : Draft) (old new : S) → n ≡ j.number → e ≡ d → IsConsistent j.protocol c.width c.lits → (r : Result T E) → OnOk r (takes old (piece_of n e c) new) → OnOk r (Hands (IsPossible j.protocol) takes (behind j [] d) old new)
+  hands_taken n e old new number same met (Ok x) took = hands_whole n e old new number same met took
+  hands_taken n e old new number same met (Err x) took = tt
+
   pub hands_none : (old : S) → (IsConsistent j.protocol c.width c.lits → ⊥) → Hands (IsPossible j.protocol) takes (behind j [] d) old old
   hands_none old none = hands_nothing (IsPossible j.protocol) takes (behind j [] d) old old refl (inr ((λ met. none (subst (λ (x : Cube). IsConsistent j.protocol x.width x.lits) (sym is) met)), refl))
 

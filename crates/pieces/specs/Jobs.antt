@@ -135,9 +135,13 @@ pub record IsWhole (p : Protocol) (t : Transition) (terms : List Term) (lits : L
   pub can : IsTrue (list_all (can_replace_all (signature_of p) d.width (values_by t.updates d.params d.choices)) lits)
   pub bounded : IsTrue (list_all (is_bounded most_bound) lits)
 
+-- the literals of a whole draft, and those of the cube as they are before the step
+abbrev pub whole_lits : Signature → Transition → List Lit → Draft → List Lit
+whole_lits sig t lits d = d.lits ++ map (literal_before sig t.updates d.params d.choices) lits
+
 -- the cube of a whole draft
 abbrev pub cube_of : Signature → Transition → List Lit → Draft → Cube
-cube_of sig t lits d = record { width = d.width; lits = normal_form sig (d.lits ++ map (literal_before sig t.updates d.params d.choices) lits) }
+cube_of sig t lits d = record { width = d.width; lits = normal_form sig (whole_lits sig t lits d) }
 
 -- what the choices for the transition with that number give
 abbrev pub by_number : Protocol → Cube → ℕ → List Piece

@@ -38,7 +38,7 @@ fn walk_all<R: Receiver>(
     ensures same { OnOk result (work.new ≡ work.old) }
     ensures handed { OnOk result (Hands (IsPossible job.now.protocol) R.takes (candidates_by job.now.protocol job.now.cube job.now.number job.now.transition) receiver.old receiver.new) }
 {
-    walk(job, scratch, work, 0, receiver)
+    walk(job, scratch, work, 0, 0, receiver)
 }
 
 // The transition with that number.

@@ -1,6 +1,6 @@
 //! The walk through all choices: backtracking over one work record. Each step is a level; its options are taken in order,
-//! and undone by cutting the record back. As soon as no state meets the literals so far, the draft is given up with all
-//! choices behind it: every piece behind it would have these literals.
+//! and undone by cutting the record back. Where a step has a choice and no state meets the literals so far, the draft is given
+//! up with all choices behind it: every piece behind it would have these literals.
 
 ghost use Rattle.std.specs.Prelude.{◌≡◌, ◌<◌, ◌≤◌, ◌+◌, ◌*◌, ◌-◌, ◌^◌, ◌↔◌, [], false, drop, length, OnOk, IsTrue};
 ghost use Rattle.std.specs.List.{flat_map};
@@ -46,18 +46,31 @@ fn is_met(job: &Job, scratch: &mut Scratch, width: u8, lits: &[Lit]) -> bool
     theory::are_consistent(scratch, job.protocol, width, lits, &[])
 }
 
-// Whether there may be pieces behind the draft. It is not asked again where no literal came since the last test.
-fn may_go_on(job: &Job, scratch: &mut Scratch, work: &Work, at: usize, tested: usize) -> bool
+// Whether there may be pieces behind the draft, whose next step has so many options. It is not asked where no literal came
+// since the last test, nor where there is no choice: one more step costs less than a test.
+fn may_go_on(
+    job: &Job,
+    scratch: &mut Scratch,
+    work: &Work,
+    at: usize,
+    count: usize,
+    tested: usize,
+) -> bool
     requires made { IsFor job.now.protocol scratch.old }
     requires stands { Stands job.now (drop at job.now.steps) work.now }
     ensures kept { IsKept scratch.old scratch.new }
     ensures made { IsFor job.now.protocol scratch.new }
     ensures none { result ≡ false → Keeps (IsPossible job.now.protocol) (behind job.now (drop at job.now.steps) work.now) [] }
 {
-    if work.lits.len() == tested {
+    if count < 2 || work.lits.len() == tested {
         return true;
     }
     is_met(job, scratch, work.width, work.lits.as_slice())
+}
+
+// How many literals are tested where the draft is gone on with.
+fn tested_now(work: &Work, count: usize, tested: usize) -> usize {
+    if count < 2 { tested } else { work.lits.len() }
 }
 
 // Hands on the piece of a whole draft, if it is one.
@@ -74,11 +87,10 @@ fn hand_on<R: Receiver>(
     ensures same { OnOk result (work.new ≡ work.old) }
     ensures handed { OnOk result (Hands (IsPossible job.now.protocol) R.takes (behind job.now [] work.old) receiver.old receiver.new) }
 {
-    let cube = whole_cube(job, work)?;
-    if is_met(job, scratch, cube.width, cube.lits.as_slice()) {
-        receiver.take(job.number, work, cube)?;
+    match whole_cube(job, scratch, work)? {
+        Some(cube) => receiver.take(job.number, work, cube),
+        None => Ok(()),
     }
-    Ok(())
 }
 
 // What to cut back to after an option of the step with that number.
@@ -98,9 +110,39 @@ fn is_end(job: &Job, at: usize) -> bool
     at == job.steps.len()
 }
 
-// Goes on with a draft, unless no state meets its literals.
+// Goes on with one option of a step, and undoes it.
 #[cycle(walk)]
-fn descend<R: Receiver>(
+fn attempt<R: Receiver>(
+    job: &Job,
+    scratch: &mut Scratch,
+    work: &mut Work,
+    at: usize,
+    k: usize,
+    tested: usize,
+    receiver: &mut R,
+) -> Result<(), Memory>
+    requires made { IsFor job.now.protocol scratch.old }
+    requires there { at < length job.now.steps }
+    requires stands { Stands job.now (drop at job.now.steps) work.old }
+    requires inside { k < options (signature_of job.now.protocol) job.now.transition job.now.cube.width (step_at job.now at) work.old }
+    ensures kept { IsKept scratch.old scratch.new }
+    ensures made { IsFor job.now.protocol scratch.new }
+    ensures same { OnOk result (work.new ≡ work.old) }
+    ensures handed { OnOk result (Hands (IsPossible job.now.protocol) R.takes (flat_map (behind job.now (drop (at + 1) job.now.steps)) (option_at (signature_of job.now.protocol) job.now.transition job.now.cube.width (step_at job.now at) work.old k)) receiver.old receiver.new) }
+{
+    let mark = mark_at(job, work, at);
+    if !take_option(job, work, at, k)? {
+        return Ok(());
+    }
+    walk(job, scratch, work, at + 1, tested, receiver)?;
+    work.cut(&mark);
+    Ok(())
+}
+
+/// Hands on the pieces behind a draft with the steps from that number on to go, in order. So many of its first literals were
+/// tested already.
+#[cycle(walk)]
+pub(crate) fn walk<R: Receiver>(
     job: &Job,
     scratch: &mut Scratch,
     work: &mut Work,
@@ -116,64 +158,16 @@ fn descend<R: Receiver>(
     ensures same { OnOk result (work.new ≡ work.old) }
     ensures handed { OnOk result (Hands (IsPossible job.now.protocol) R.takes (behind job.now (drop at job.now.steps) work.old) receiver.old receiver.new) }
 {
-    if !may_go_on(job, scratch, work, at, tested) {
-        return Ok(());
-    }
-    walk(job, scratch, work, at, receiver)
-}
-
-// Goes on with one option of a step, and undoes it.
-#[cycle(walk)]
-fn attempt<R: Receiver>(
-    job: &Job,
-    scratch: &mut Scratch,
-    work: &mut Work,
-    at: usize,
-    k: usize,
-    receiver: &mut R,
-) -> Result<(), Memory>
-    requires made { IsFor job.now.protocol scratch.old }
-    requires there { at < length job.now.steps }
-    requires stands { Stands job.now (drop at job.now.steps) work.old }
-    requires inside { k < options (signature_of job.now.protocol) job.now.transition job.now.cube.width (step_at job.now at) work.old }
-    ensures kept { IsKept scratch.old scratch.new }
-    ensures made { IsFor job.now.protocol scratch.new }
-    ensures same { OnOk result (work.new ≡ work.old) }
-    ensures handed { OnOk result (Hands (IsPossible job.now.protocol) R.takes (flat_map (behind job.now (drop (at + 1) job.now.steps)) (option_at (signature_of job.now.protocol) job.now.transition job.now.cube.width (step_at job.now at) work.old k)) receiver.old receiver.new) }
-{
-    let mark = mark_at(job, work, at);
-    let tested = work.lits.len();
-    if !take_option(job, work, at, k)? {
-        return Ok(());
-    }
-    descend(job, scratch, work, at + 1, tested, receiver)?;
-    work.cut(&mark);
-    Ok(())
-}
-
-/// Hands on the pieces behind a draft with the steps from that number on to go, in order.
-#[cycle(walk)]
-pub(crate) fn walk<R: Receiver>(
-    job: &Job,
-    scratch: &mut Scratch,
-    work: &mut Work,
-    at: usize,
-    receiver: &mut R,
-) -> Result<(), Memory>
-    requires made { IsFor job.now.protocol scratch.old }
-    requires there { at ≤ length job.now.steps }
-    requires stands { Stands job.now (drop at job.now.steps) work.old }
-    ensures kept { IsKept scratch.old scratch.new }
-    ensures made { IsFor job.now.protocol scratch.new }
-    ensures same { OnOk result (work.new ≡ work.old) }
-    ensures handed { OnOk result (Hands (IsPossible job.now.protocol) R.takes (behind job.now (drop at job.now.steps) work.old) receiver.old receiver.new) }
-{
     if is_end(job, at) {
         return hand_on(job, scratch, work, receiver);
     }
     let count = option_count(job, work, at);
+    if !may_go_on(job, scratch, work, at, count, tested) {
+        return Ok(());
+    }
+    let tested = tested_now(work, count, tested);
     for k in 0..count {
-        attempt(job, scratch, work, at, k, receiver)?;
+        attempt(job, scratch, work, at, k, tested, receiver)?;
     }
     Ok(())
 }

@@ -1,15 +1,18 @@
 //! The cube of a whole draft: its literals, and those of the cube after the step with each term replaced by its value.
 
-ghost use Rattle.std.specs.Prelude.{◌≡◌, ◌<◌, ◌++◌, [], map, length, IsTrue, IfOk, OnOk};
+ghost use Rattle.std.specs.Prelude.{◌≡◌, ◌<◌, ◌++◌, ◌↔◌, [], map, length, IsTrue, IfOk, IfSome, IfNone, OnOk};
 ghost use Rattle.std.specs.List.{list_all};
 ghost use Rattle.cub_proto.specs.StateOf.{signature_of};
 ghost use Rattle.cub_proto.specs.Fits.{literal_fits, is_bounded, update_fits};
+ghost use Rattle.cub_cube.specs.Meaning.{IsConsistent};
 ghost use Rattle.cub_cube.specs.Normal.{normal_form};
 ghost use Rattle.cub_cube.specs.Replace.{replaced, can_replace_all};
+ghost use Rattle.theory_laws.specs.Fitting.{AreFitting};
+ghost use Rattle.theory.specs.Made.{IsFor, IsKept};
 ghost use Rattle.updates.specs.Chosen.{value_in, taken_value};
 ghost use Rattle.updates.specs.Sides.{most_bound};
 ghost use Rattle.updates.specs.Through.{literal_before};
-ghost use Rattle.pieces.specs.Jobs.{IsWhole, Stands, cube_of};
+ghost use Rattle.pieces.specs.Jobs.{IsWhole, Stands, whole_lits, cube_of};
 
 use crate::job::Job;
 use crate::work::Work;
@@ -17,6 +20,7 @@ use cub_base::Memory;
 use cub_cube::Cube;
 use cub_proto::{Lit, Lits, Protocol, Term, Transition, Update, Value};
 use std::alloc::{AllocError, Global};
+use theory::Scratch;
 use updates::{Choice, replaced, taken_value};
 
 fn fill_values(
@@ -93,33 +97,68 @@ fn push_before(
     )
 }
 
-// The cube of a whole draft, which stays as it was.
+// The cube of the literals, if some state meets them. Most drafts end here, before anything is put in order.
+fn met_cube(
+    scratch: &mut Scratch,
+    protocol: &Protocol,
+    width: u8,
+    lits: &Lits,
+) -> Result<Option<Cube>, Memory>
+    requires made { IsFor protocol.now scratch.old }
+    requires fitting { AreFitting protocol.now width lits.now }
+    ensures kept { IsKept scratch.old scratch.new }
+    ensures made { IsFor protocol.now scratch.new }
+    ensures some { IfOk result (λ o. IfSome o (λ c. (c ≡ record { width = width; lits = normal_form (signature_of protocol.now) lits.now }) × IsConsistent protocol.now width lits.now)) }
+    ensures none { IfOk result (λ o. IfNone o (IsConsistent protocol.now width lits.now → ⊥)) }
+{
+    if !theory::are_consistent(scratch, protocol, width, lits.as_slice(), &[]) {
+        return Ok(None);
+    }
+    let cube = Cube::of(lits.allocator(), protocol, width, lits.as_slice())?;
+    Ok(Some(cube))
+}
+
+// The cube of a whole draft, which stays as it was; none where no state meets it.
 fn cube_by(
+    scratch: &mut Scratch,
     protocol: &Protocol,
     transition: &Transition,
     terms: &[Term],
     work: &mut Work,
     lits: &[Lit],
-) -> Result<Cube, Memory>
-    requires { IsWhole protocol.now transition.now terms.now lits.now work.old }
+) -> Result<Option<Cube>, Memory>
+    requires made { IsFor protocol.now scratch.old }
+    requires whole { IsWhole protocol.now transition.now terms.now lits.now work.old }
+    requires fitting { AreFitting protocol.now work.old.width (whole_lits (signature_of protocol.now) transition.now lits.now work.old) }
+    ensures kept { IsKept scratch.old scratch.new }
+    ensures made { IsFor protocol.now scratch.new }
     ensures same { OnOk result (work.new ≡ work.old) }
-    ensures cube { IfOk result (λ c. c ≡ cube_of (signature_of protocol.now) transition.now lits.now work.old) }
+    ensures some { IfOk result (λ o. IfSome o (λ c. (c ≡ cube_of (signature_of protocol.now) transition.now lits.now work.old) × IsConsistent protocol.now work.old.width (whole_lits (signature_of protocol.now) transition.now lits.now work.old))) }
+    ensures none { IfOk result (λ o. IfNone o (IsConsistent protocol.now work.old.width (whole_lits (signature_of protocol.now) transition.now lits.now work.old) → ⊥)) }
 {
     let kept = work.lits.len();
     push_before(protocol, transition.updates.as_slice(), terms, work, lits)?;
-    let alloc = work.lits.allocator();
-    let cube = Cube::of(alloc, protocol, work.width, work.lits.as_slice())?;
+    let cube = met_cube(scratch, protocol, work.width, &work.lits)?;
     work.cut_lits(kept);
     Ok(cube)
 }
 
-/// The cube of a whole draft, which stays as it was.
-pub(crate) fn whole_cube(job: &Job, work: &mut Work) -> Result<Cube, Memory>
-    requires { Stands job.now [] work.old }
+/// The cube of a whole draft, which stays as it was; none where no state meets it.
+pub(crate) fn whole_cube(
+    job: &Job,
+    scratch: &mut Scratch,
+    work: &mut Work,
+) -> Result<Option<Cube>, Memory>
+    requires made { IsFor job.now.protocol scratch.old }
+    requires stands { Stands job.now [] work.old }
+    ensures kept { IsKept scratch.old scratch.new }
+    ensures made { IsFor job.now.protocol scratch.new }
     ensures same { OnOk result (work.new ≡ work.old) }
-    ensures cube { IfOk result (λ c. c ≡ cube_of (signature_of job.now.protocol) job.now.transition job.now.cube.lits work.old) }
+    ensures some { IfOk result (λ o. IfSome o (λ c. (c ≡ cube_of (signature_of job.now.protocol) job.now.transition job.now.cube.lits work.old) × IsConsistent job.now.protocol c.width c.lits)) }
+    ensures none { IfOk result (λ o. IfNone o (IsConsistent job.now.protocol work.old.width (cube_of (signature_of job.now.protocol) job.now.transition job.now.cube.lits work.old).lits → ⊥)) }
 {
     cube_by(
+        scratch,
         job.protocol,
         job.transition,
         job.terms,

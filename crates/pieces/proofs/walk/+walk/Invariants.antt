@@ -5,9 +5,6 @@ use Rattle.pieces.specs.Handed.{Hands}
 use Rattle.pieces.proofs.Walking.{so_far}
 use Rattle.pieces.proofs.walk.+walk.Given as goal
 
-abbrev pub decreases-descend : goal.decreases-descend
-decreases-descend g l = 3 * (length l.job.now.steps - l.at) + 1
-
 abbrev pub decreases-attempt : goal.decreases-attempt
 decreases-attempt g l = 3 * (length l.job.now.steps - l.at) - 1
 

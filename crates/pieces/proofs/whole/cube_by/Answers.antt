@@ -9,4 +9,4 @@ use Rattle.pieces.proofs.whole.cube_by.Goals as goal
 pub push_before-requires-clause-can : goal.push_before-requires-clause-can
 push_before-requires-clause-can c =
     let d = c.args.work.now in
-    subst (λ (us : List Update). IsTrue (list_all (can_replace_all (signature_of c.args.protocol.now) d.width (values_by us d.params d.choices)) c.args.lits.now)) (sym c.as_slice.ensures) c.requires.can
+    subst (λ (us : List Update). IsTrue (list_all (can_replace_all (signature_of c.args.protocol.now) d.width (values_by us d.params d.choices)) c.args.lits.now)) (sym c.as_slice.ensures) c.requires.whole.can
