@@ -10,3 +10,4 @@ pub mod StepLists
 pub mod Beginning
 pub mod Gathering
 pub mod Raw
+pub mod Idling

@@ -2,3 +2,4 @@ pub mod Options
 pub mod Marks
 pub mod Jobs
 pub mod Handed
+pub mod Idle

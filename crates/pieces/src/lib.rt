@@ -25,6 +25,9 @@ mod receiver;
 
 pub use receiver::Receiver;
 
+// Steps without a choice.
+mod idle;
+
 // The walk through all choices.
 mod walk;
 

@@ -34,7 +34,7 @@ fn target_of(term: Term) -> Target
 }
 
 // The update of the term with that number.
-fn update_at<'a>(transition: &'a Transition, work: &Work, i: usize) -> Option<&'a Update>
+pub(crate) fn update_at<'a>(transition: &'a Transition, work: &Work, i: usize) -> Option<&'a Update>
     requires { i < length work.now.choices }
     ensures { option_copied result ≡ update_at transition.now work.now i }
 {
@@ -45,7 +45,7 @@ fn update_at<'a>(transition: &'a Transition, work: &Work, i: usize) -> Option<&'
 }
 
 // Whether the place is one of the cube and the parameters, and no parameter.
-fn is_other(work: &Work, q: u8) -> bool
+pub(crate) fn is_other(work: &Work, q: u8) -> bool
     ensures { result ≡ (nat_lt q work.now.inner && not (is_among work.now.params q)) }
 {
     q < work.inner && !is_param(work.params.as_slice(), q)
@@ -58,7 +58,7 @@ fn is_param(params: &[u8], q: u8) -> bool
 }
 
 // Whether there is a new place of a pick with that number.
-fn is_late(work: &Work, j: usize) -> bool
+pub(crate) fn is_late(work: &Work, j: usize) -> bool
     requires { work.now.inner ≤ work.now.width }
     ensures { result ≡ nat_lt (work.now.inner + j) work.now.width }
 {
@@ -73,7 +73,7 @@ fn late_place(inner: u8, j: usize) -> u8
 }
 
 // Whether the chosen value of the term with that number is `?`.
-fn is_free(protocol: &Protocol, transition: &Transition, work: &Work, i: usize) -> bool
+pub(crate) fn is_free(protocol: &Protocol, transition: &Transition, work: &Work, i: usize) -> bool
     requires there { i < length work.now.choices }
     requires few { length work.now.params < 12 }
     requires fit { IsTrue (list_all (update_fits (signature_of protocol.now) (length work.now.params)) transition.now.updates) }

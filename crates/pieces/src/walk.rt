@@ -15,6 +15,7 @@ ghost use Rattle.pieces.specs.Jobs.{Stands, as_step, term_number, step_at, behin
 ghost use Rattle.pieces.specs.Marks.{mark_of};
 ghost use Rattle.pieces.specs.Handed.{Hands};
 
+use crate::idle::next_choice;
 use crate::job::Job;
 use crate::options::{option_count, take_option};
 use crate::receiver::Receiver;
@@ -158,16 +159,17 @@ pub(crate) fn walk<R: Receiver>(
     ensures same { OnOk result (work.new ≡ work.old) }
     ensures handed { OnOk result (Hands (IsPossible job.now.protocol) R.takes (behind job.now (drop at job.now.steps) work.old) receiver.old receiver.new) }
 {
-    if is_end(job, at) {
+    let next = next_choice(job, work, at);
+    if is_end(job, next) {
         return hand_on(job, scratch, work, receiver);
     }
-    let count = option_count(job, work, at);
-    if !may_go_on(job, scratch, work, at, count, tested) {
+    let count = option_count(job, work, next);
+    if !may_go_on(job, scratch, work, next, count, tested) {
         return Ok(());
     }
     let tested = tested_now(work, count, tested);
     for k in 0..count {
-        attempt(job, scratch, work, at, k, tested, receiver)?;
+        attempt(job, scratch, work, next, k, tested, receiver)?;
     }
     Ok(())
 }

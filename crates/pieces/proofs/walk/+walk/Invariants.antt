@@ -16,5 +16,5 @@ invariant-walk-loop-k g l = record {
   kept : IsKept l.fn.scratch l.scratch;
   made : IsFor l.job.protocol l.scratch;
   same : l.work ≡ l.fn.work;
-  handed : Hands (IsPossible l.job.protocol) g.R.Receiver.takes (so_far l.job l.at l.fn.work l.k) l.fn.receiver l.receiver;
+  handed : Hands (IsPossible l.job.protocol) g.R.Receiver.takes (so_far l.job l.next l.fn.work l.k) l.fn.receiver l.receiver;
 }
