@@ -24,11 +24,10 @@ use Rattle.verify_answers.proofs.OneVerdict.{one_answer as one_certificate}
 use Rattle.parcub.specs.Answer.{AnswersPrint, AnswersReading, files_read}
 use Rattle.parcub.specs.Checks.{AnswersCheckBy, AnswersSampleBy}
 use Rattle.parcub.specs.Laws.{AreTold, OneAnswer}
-use Rattle.parcub.proofs.Weaker.{file_weaker}
 use Rattle.parcub.proofs.OneProtocol.{same_parts, one_text_protocol, one_text_fault, no_text_fault}
-use Rattle.check_answers.specs.Checked.{TellsNoRun}
 use Rattle.check_answers.specs.Sampled.{TellsLine}
-use Rattle.check_answers.proofs.OneTold.{budget_same, one_line, one_answer as one_checked}
+use Rattle.check_answers.proofs.OneTold.{budget_same, one_line}
+use Rattle.answer_laws.proofs.OneAnswer.{one_answer as one_checked}
 use Rattle.crew.specs.Search.{IsSearch}
 use Rattle.crew.proofs.OneLog.{one_log}
 
@@ -130,12 +129,9 @@ one_print p status more text another a b = (a.0 ∙ sym b.0, a.1 ∙ sym b.1)
 
 -- ---- searches
 module _ (cubes width format : ℕ) where
-  abbrev ChecksQuietly : Protocol → Answers
-  ChecksQuietly p status text = TellsNoRun status × AnswersCheckBy cubes width format p status text
-
-  one_check : (p : Protocol) (status more : ℕ) (text another : List ℕ) → ChecksQuietly p status text → AnswersCheckBy cubes width format p more another → Same status more text another
-  one_check p status more text another (quiet, (a, numbers, first)) (b, others, second) =
-      one_checked p a b format status more text another (numbers.0 ∙ sym others.0) (numbers.1 ∙ sym others.1) quiet first second
+  one_check : (p : Protocol) (status more : ℕ) (text another : List ℕ) → AnswersCheckBy cubes width format p status text → AnswersCheckBy cubes width format p more another → Same status more text another
+  one_check p status more text another (a, numbers, first) (b, others, second) =
+      one_checked p a b format status more text another (numbers.0 ∙ sym others.0) (numbers.1 ∙ sym others.1) first second
 
 one_sample : (levels cubes width status more : ℕ) (text another : List ℕ) → AnswersSampleBy levels cubes width status text → AnswersSampleBy levels cubes width more another → Same status more text another
 one_sample levels cubes width status more text another (a, numbers, first) (b, others, second) =
@@ -152,29 +148,28 @@ told_some : {A : Type 0} (o : Option A) → is_some o ≡ true → (x : A) × (o
 told_some None h = absurd (let no : false ≡ true = h in cc)
 told_some (Some x) h = (x, refl)
 
-one_request : (told : Told) (taken later status more : ℕ) (text another : List ℕ) (r : Result Request WordsFault) → AreTold told (files_read r) → TellsNoRun status
+one_request : (told : Told) (taken later status more : ℕ) (text another : List ℕ) (r : Result Request WordsFault) → AreTold told (files_read r)
     → AnswersReading told taken r status text → AnswersReading told later r more another → Same status more text another
-one_request told taken later status more text another (Ok (Print file)) are quiet a b =
+one_request told taken later status more text another (Ok (Print file)) are a b =
     let known = told_some (told file) (All-head (λ name. IsTrue (is_some (told name))) file [] are) in
     one_file AnswersPrint AnswersPrint one_print told file known.0 known.1 taken later status more text another a b
-one_request told taken later status more text another (Ok (Replay file trace)) are quiet a b =
+one_request told taken later status more text another (Ok (Replay file trace)) are a b =
     let test : List ℕ → Type 0 = λ name. IsTrue (is_some (told name)) in
     let known = told_some (told file) (All-head test file (trace ∷ []) are) in
     let second = told_some (told trace) (All-head test trace [] (All-tail test file (trace ∷ []) are)) in
     one_file (AnswersTrace told taken trace) (AnswersTrace told later trace)
     (λ p s m t u x y. one_trace p told trace second.0 second.1 taken later s m t u x y) told file known.0 known.1 taken later status more text another a b
-one_request told taken later status more text another (Ok (Check file cubes width workers format)) are quiet a b =
+one_request told taken later status more text another (Ok (Check file cubes width workers format)) are a b =
     let known = told_some (told file) (All-head (λ name. IsTrue (is_some (told name))) file [] are) in
-    one_file (ChecksQuietly cubes width format) (AnswersCheckBy cubes width format) (one_check cubes width format) told file known.0 known.1 taken later status more text another
-    (file_weaker told taken file (AnswersCheckBy cubes width format) (ChecksQuietly cubes width format) status text (λ p answer. (quiet, answer)) a) b
-one_request told taken later status more text another (Ok (Verify file cert)) are quiet a b =
+    one_file (AnswersCheckBy cubes width format) (AnswersCheckBy cubes width format) (one_check cubes width format) told file known.0 known.1 taken later status more text another a b
+one_request told taken later status more text another (Ok (Verify file cert)) are a b =
     let test : List ℕ → Type 0 = λ name. IsTrue (is_some (told name)) in
     let known = told_some (told file) (All-head test file (cert ∷ []) are) in
     let second = told_some (told cert) (All-head test cert [] (All-tail test file (cert ∷ []) are)) in
     one_file (AnswersNamed told taken cert) (AnswersNamed told later cert)
     (λ p s m t u x y. one_named p told cert second.0 second.1 taken later s m t u x y) told file known.0 known.1 taken later status more text another a b
-one_request told taken later status more text another (Ok (Sample levels cubes width workers)) are quiet a b = one_sample levels cubes width status more text another a b
-one_request told taken later status more text another (Err fault) are quiet a b = (a.0 ∙ sym b.0, a.1 ∙ sym b.1)
+one_request told taken later status more text another (Ok (Sample levels cubes width workers)) are a b = one_sample levels cubes width status more text another a b
+one_request told taken later status more text another (Err fault) are a b = (a.0 ∙ sym b.0, a.1 ∙ sym b.1)
 
 pub one_answer : OneAnswer
-one_answer told words are taken later status more text another quiet a b = one_request told taken later status more text another (reading words) are quiet a b
+one_answer told words are taken later status more text another a b = one_request told taken later status more text another (reading words) are a b

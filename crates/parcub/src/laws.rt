@@ -2,9 +2,8 @@
 
 ghost use Rattle.parcub.specs.Laws.{OneAnswer};
 
-/// Where the shelf tells the bytes of the files, words have one answer at most, but for which run to an unsafe state is told.
-/// So the words and the bytes determine the status and the text of every other run that lacks no memory and in which no
-/// count of faults rises.
+/// Where the shelf tells the bytes of the files, words have one answer at most. So the words and the bytes determine the status
+/// and the text of every run that lacks no memory and in which no count of faults rises.
 pub fn one_answer()
     ensures { OneAnswer }
 {}

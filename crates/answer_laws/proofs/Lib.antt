@@ -1,0 +1,9 @@
+pub mod Logs
+pub mod Certificates
+pub mod Picks
+pub mod Plains
+pub mod Traces
+pub mod ChosenParts
+pub mod ChosenOnce
+pub mod OneTrace
+pub mod OneAnswer
