@@ -4,7 +4,7 @@ use Rattle.std.proofs.lemmas.Bool.{cases_lt, cases_eq}
 use Rattle.cub_proto.specs.declared.protocol.Protocol.{Protocol}
 use Rattle.cub_cube.specs.declared.cube.Cube.{Cube}
 use Rattle.cub_cube.specs.Cover.{DoesCover, IsCovered}
-use Rattle.std.specs.Prelude.{All, slice_index}
+use Rattle.std.specs.Prelude.{All, slice_index, IfNone}
 use Rattle.cub_cube.specs.Meaning.{IsConsistent}
 use Rattle.subsume.proofs.Retiring.{cube_member}
 use Rattle.std.proofs.lemmas.List.{get_or-map}
@@ -43,6 +43,14 @@ rises_within P from mid upto old new low high first = rises_part P from mid upto
 -- what passed by, and then the rest
 pub rises_from : (P : ℕ → Type 0) (from mid upto old new : ℕ) → from ≤ mid → RisesFor P mid upto old new → RisesFor P from upto old new
 rises_from P from mid upto old new low (n, many, most) = (n, at_least_from P from mid upto n low many, most)
+
+-- a part first, then what is behind it, then what is before
+pub rises_round : (P : ℕ → Type 0) (from mid upto old between later new : ℕ) → from ≤ mid → mid ≤ upto → RisesFor P from mid old between → RisesFor P mid upto between later → RisesFor P 0 from later new → RisesFor P 0 upto old new
+rises_round P from mid upto old between later new low high (n, many, most) (m, more, least) (k, rest, last) =
+    (k + (n + m), at_least_joined P 0 from upto k (n + m) (omega arith) (omega (arith, low, high)) rest (at_least_joined P from mid upto n m low high many more), omega (arith, most, least, last))
+
+pub rises_late : (P : ℕ → Type 0) (from mid upto old between new : ℕ) → from ≤ mid → mid ≤ upto → RisesFor P from mid old between → RisesFor P mid upto between new → RisesFor P 0 upto old new
+rises_late P from mid upto old between new low high first second = rises_from P 0 from upto old new (omega arith) (rises_part P from mid upto old between new low high first second)
 
 -- ---- what is found
 pub none_further : (P : ℕ → Type 0) (from mid upto : ℕ) → ((i : ℕ) → from ≤ i → i < mid → P i → ⊥) → ((i : ℕ) → mid ≤ i → i < upto → P i → ⊥) → (i : ℕ) → from ≤ i → i < upto → P i → ⊥
@@ -106,6 +114,35 @@ none_live_part P retired at mid end before passed searched i high free = elim (c
   ]
 ]
 
+-- the same from a number on
+pub none_live_further : (P : ℕ → Type 0) (retired : List ℕ) (start at mid end : ℕ) → ((i : ℕ) → start ≤ i → i < at → slice_index retired i ≡ 0 → P i → ⊥)
+    → ((i : ℕ) → at ≤ i → i < mid → P i → ⊥) → ((i : ℕ) → mid ≤ i → i < end → slice_index retired i ≡ 0 → P i → ⊥)
+    → (i : ℕ) → start ≤ i → i < end → slice_index retired i ≡ 0 → P i → ⊥
+none_live_further P retired start at mid end before passed searched i low high free = elim (cases_lt i at) [
+  | inl less ↦ before i low less free
+  | inr more ↦ elim (cases_lt i mid) [
+    | inl near ↦ passed i more near
+    | inr far ↦ searched i far high free
+  ]
+]
+
+-- none in a part, behind it and before it
+pub none_live_round : (P : ℕ → Type 0) (retired : List ℕ) (from end upto : ℕ) → ((i : ℕ) → from ≤ i → i < end → slice_index retired i ≡ 0 → P i → ⊥)
+    → ((i : ℕ) → end ≤ i → i < upto → slice_index retired i ≡ 0 → P i → ⊥) → ((i : ℕ) → 0 ≤ i → i < from → slice_index retired i ≡ 0 → P i → ⊥)
+    → (i : ℕ) → i < upto → slice_index retired i ≡ 0 → P i → ⊥
+none_live_round P retired from end upto here behind before i high free = elim (cases_lt i from) [
+  | inl less ↦ before i (omega arith) less free
+  | inr more ↦ elim (cases_lt i end) [
+    | inl near ↦ here i more near free
+    | inr far ↦ behind i far high free
+  ]
+]
+
 -- a word that is kept apart is that of the summary
 pub key_is : (f : Summary → ℕ) (keys : List ℕ) (summaries : List Summary) (i : ℕ) → keys ≡ map f summaries → i < length summaries → get_or keys i 0 ≡ f (summary_at summaries i)
 key_is f keys summaries i are below = ap (λ ks. get_or ks i 0) are ∙ get_or-map f summaries i (record { needs = filled 0; offers = filled 0 }) 0 below
+
+-- what holds where nothing was found
+pub if_none : {A : Type 0} (o : Option A) (X Y : Type 0) → (X → Y) → IfNone o X → IfNone o Y
+if_none None X Y f h = f h
+if_none (Some x) X Y f h = tt

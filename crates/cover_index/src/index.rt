@@ -32,6 +32,8 @@ pub struct Index {
     larger: Vec<Summary>,
     // how many of the first cubes are known to be met by some state
     met: u32,
+    // where the last search for a cover ended; a hint, of which nothing is asked
+    last: u32,
 }
 
 impl Model for Index {
@@ -57,6 +59,7 @@ impl Index {
             groups: Vec::new(alloc),
             larger: Vec::new(alloc),
             met: 0,
+            last: 0,
         }
     }
 }
@@ -160,7 +163,7 @@ impl Finder<Scratch> for Index {
         ensures made { IsFor protocol.now scratch.new }
         ensures tests { RisesForCovers protocol.now self.old.cubes 0 (length self.old.cubes) cube.now scratch.old.tests scratch.new.tests }
     {
-        some_cover(
+        match some_cover(
             scratch,
             protocol,
             self.cubes.as_slice(),
@@ -168,8 +171,15 @@ impl Finder<Scratch> for Index {
             self.groups.as_slice(),
             self.larger.as_slice(),
             self.retired.as_slice(),
+            self.last,
             cube,
-        )
+        ) {
+            Some(near) => {
+                self.last = near;
+                true
+            }
+            None => false,
+        }
     }
 
     fn count(&self) -> u32 {
