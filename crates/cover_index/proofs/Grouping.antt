@@ -8,12 +8,8 @@ use Rattle.cub_cube.specs.declared.cube.Cube.{Cube}
 use Rattle.cub_cube.specs.Meaning.{IsConsistent}
 use Rattle.log_form.specs.Links.{cube_at, no_cube}
 use Rattle.subsume.specs.declared.summary.Summary.{Summary}
-use Rattle.subsume.specs.Summary.{IsSummary, IsOf, filled}
-use Rattle.cover_index.specs.Asked.{summary_at, AreGrouped, AreMet, AreKept, Joins}
-
--- what stands past the end of a list of summaries
-abbrev pub none_there : Summary
-none_there = record { needs = filled 0; offers = filled 0 }
+use Rattle.subsume.specs.Summary.{IsSummary, IsOf}
+use Rattle.cover_index.specs.Asked.{summary_at, no_summary, AreGrouped, AreMet, AreKept, Joins}
 
 -- ---- cubes of a list that has one more, or only its first
 pub cube_before : (cubes : List Cube) (c : Cube) (i : ℕ) → i < length cubes → cube_at (cubes ++ c ∷ []) i ≡ cube_at cubes i
@@ -26,7 +22,7 @@ pub cube_kept : (cubes : List Cube) (count i : ℕ) → i < count → cube_at (t
 cube_kept cubes count i below = get_or-take count cubes i no_cube below
 
 pub summary_kept : (summaries : List Summary) (count i : ℕ) → i < count → summary_at (take count summaries) i ≡ summary_at summaries i
-summary_kept summaries count i below = get_or-take count summaries i none_there below
+summary_kept summaries count i below = get_or-take count summaries i no_summary below
 
 -- ---- one summary is joined with more
 pub kept_set : (old : List Summary) (at : ℕ) (s : Summary) → at < length old → Joins (summary_at old at) s → AreKept old (set old at s)
@@ -35,10 +31,10 @@ kept_set old at s below joins = record { more = let size = length-set old at s i
     kept : (i : ℕ) → i < length old → (p : Protocol) (c : Cube) → IsOf p c (summary_at old i) → IsOf p c (summary_at (set old at s) i)
     kept i less p c it = elim (cases_eq i at) [
       | inl same ↦
-          let here : summary_at (set old at s) at ≡ s = get_or-set_same old at s none_there below in
+          let here : summary_at (set old at s) at ≡ s = get_or-set_same old at s no_summary below in
           subst (λ k. IsOf p c (summary_at (set old at s) k)) (sym same) (subst (λ x. IsOf p c x) (sym here) (joins p c (subst (λ k. IsOf p c (summary_at old k)) same it)))
       | inr other ↦
-          let there : summary_at (set old at s) i ≡ summary_at old i = get_or-set_other old at i s none_there other in
+          let there : summary_at (set old at s) i ≡ summary_at old i = get_or-set_other old at i s no_summary other in
           subst (λ x. IsOf p c x) (sym there) it
     ]
 
@@ -74,12 +70,12 @@ pub own_push : (p : Protocol) (cubes : List Cube) (summaries : List Summary) (c 
     → (i : ℕ) → i < length (cubes ++ c ∷ []) → IsSummary p (cube_at (cubes ++ c ∷ []) i) (summary_at (summaries ++ own ∷ []) i)
 own_push p cubes summaries c own sizes each is i below = elim (cases_lt i (length cubes)) [
   | inl less ↦
-      let there : summary_at (summaries ++ own ∷ []) i ≡ summary_at summaries i = get_or_append_left summaries (own ∷ []) none_there i (omega arith) in
+      let there : summary_at (summaries ++ own ∷ []) i ≡ summary_at summaries i = get_or_append_left summaries (own ∷ []) no_summary i (omega arith) in
       subst (λ x. IsSummary p x (summary_at (summaries ++ own ∷ []) i)) (sym (cube_before cubes c i less)) (subst (λ x. IsSummary p (cube_at cubes i) x) (sym there) (each i less))
   | inr more ↦
       let count = length_push cubes c in
       let last : length cubes ≡ i = omega (arith, below) in
-      let there : summary_at (summaries ++ own ∷ []) i ≡ own = get_or_push summaries own none_there i (sizes ∙ last) in
+      let there : summary_at (summaries ++ own ∷ []) i ≡ own = get_or_push summaries own no_summary i (sizes ∙ last) in
       subst (λ x. IsSummary p x (summary_at (summaries ++ own ∷ []) i)) (sym (cube_last cubes c i last)) (subst (λ x. IsSummary p c x) (sym there) is)
 ]
 
@@ -104,4 +100,4 @@ met_take p cubes count met less few fewer known i low below =
 
 -- what was read from the list is what stands there
 pub summary_read : (summaries : List Summary) (i : ℕ) (x : Summary) → i < length summaries → x ≡ get_or summaries i x → x ≡ summary_at summaries i
-summary_read summaries i x below is = get_or_read summaries i x below is none_there
+summary_read summaries i x below is = get_or_read summaries i x below is no_summary

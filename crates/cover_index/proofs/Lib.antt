@@ -3,3 +3,5 @@ pub mod Grouping
 pub mod Serving
 pub mod Keyed
 pub mod Sealing
+pub mod Storing
+pub mod Parting

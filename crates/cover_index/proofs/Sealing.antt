@@ -8,9 +8,8 @@ use Rattle.log_form.specs.Links.{cube_at}
 use Rattle.subsume.specs.declared.summary.Summary.{Summary}
 use Rattle.subsume.specs.Summary.{IsSummary, IsOf}
 use Rattle.subsume.proofs.Summarized.{own_summary}
-use Rattle.cover_index.specs.Asked.{summary_at, AreSummed, AreGrouped, Joins}
+use Rattle.cover_index.specs.Asked.{summary_at, no_summary, AreSummed, AreGrouped, Joins}
 use Rattle.cover_index.specs.Sealed.{AreOf}
-use Rattle.cover_index.proofs.Grouping.{none_there}
 
 -- the summary of one more cube of the list
 pub sum_more : (p : Protocol) (cubes : List Cube) (summaries : List Summary) (at : ℕ) (own : Summary) → length summaries ≡ at
@@ -18,11 +17,11 @@ pub sum_more : (p : Protocol) (cubes : List Cube) (summaries : List Summary) (at
     → (i : ℕ) → i < at + 1 → IsSummary p (cube_at cubes i) (summary_at (summaries ++ own ∷ []) i)
 sum_more p cubes summaries at own size each here i below = elim (cases_lt i at) [
   | inl less ↦
-      let there : summary_at (summaries ++ own ∷ []) i ≡ summary_at summaries i = get_or_append_left summaries (own ∷ []) none_there i (omega arith) in
+      let there : summary_at (summaries ++ own ∷ []) i ≡ summary_at summaries i = get_or_append_left summaries (own ∷ []) no_summary i (omega arith) in
       subst (λ x. IsSummary p (cube_at cubes i) x) (sym there) (each i less)
   | inr more ↦
       let last : at ≡ i = omega (arith, below, more) in
-      let there : summary_at (summaries ++ own ∷ []) i ≡ own = get_or_push summaries own none_there i (omega arith) in
+      let there : summary_at (summaries ++ own ∷ []) i ≡ own = get_or_push summaries own no_summary i (omega arith) in
       subst (λ x. IsSummary p (cube_at cubes i) x) (sym there) (subst (λ k. IsSummary p (cube_at cubes k) own) last here)
 ]
 

@@ -92,9 +92,9 @@ met_more p cubes at known here i low below = elim (cases_eq i at) [
 ]
 
 -- none that is not retired
-pub none_live_more : (P : ℕ → Type 0) (retired : List ℕ) (from at : ℕ) → ((i : ℕ) → from ≤ i → i < at → slice_index retired i ≡ 0 → P i → ⊥) → (slice_index retired at ≡ 0 → P at → ⊥) → (i : ℕ) → from ≤ i → i < at + 1 → slice_index retired i ≡ 0 → P i → ⊥
-none_live_more P retired from at before here i low high free = elim (cases_eq i at) [
-  | inl same ↦ λ h. here (subst (λ k. slice_index retired k ≡ 0) same free) (subst P same h)
+pub none_live_more : (P R : ℕ → Type 0) (from at : ℕ) → ((i : ℕ) → from ≤ i → i < at → R i → P i → ⊥) → (R at → P at → ⊥) → (i : ℕ) → from ≤ i → i < at + 1 → R i → P i → ⊥
+none_live_more P R from at before here i low high free = elim (cases_eq i at) [
+  | inl same ↦ λ h. here (subst R same free) (subst P same h)
   | inr other ↦ before i low (omega arith) free
 ]
 
@@ -113,6 +113,10 @@ none_live_part P retired at mid end before passed searched i high free = elim (c
     | inr far ↦ searched i far high free
   ]
 ]
+
+-- a word that is kept apart is that of the summary
+pub key_is : (f : Summary → ℕ) (keys : List ℕ) (summaries : List Summary) (i : ℕ) → keys ≡ map f summaries → i < length summaries → get_or keys i 0 ≡ f (summary_at summaries i)
+key_is f keys summaries i are below = ap (λ ks. get_or ks i 0) are ∙ get_or-map f summaries i (record { needs = filled 0; offers = filled 0 }) 0 below
 
 -- the same from a number on
 pub none_live_further : (P : ℕ → Type 0) (retired : List ℕ) (start at mid end : ℕ) → ((i : ℕ) → start ≤ i → i < at → slice_index retired i ≡ 0 → P i → ⊥)
@@ -137,10 +141,6 @@ none_live_round P retired from end upto here behind before i high free = elim (c
     | inr far ↦ behind i far high free
   ]
 ]
-
--- a word that is kept apart is that of the summary
-pub key_is : (f : Summary → ℕ) (keys : List ℕ) (summaries : List Summary) (i : ℕ) → keys ≡ map f summaries → i < length summaries → get_or keys i 0 ≡ f (summary_at summaries i)
-key_is f keys summaries i are below = ap (λ ks. get_or ks i 0) are ∙ get_or-map f summaries i (record { needs = filled 0; offers = filled 0 }) 0 below
 
 -- what holds where nothing was found
 pub if_none : {A : Type 0} (o : Option A) (X Y : Type 0) → (X → Y) → IfNone o X → IfNone o Y

@@ -17,15 +17,26 @@ pub record IsAsked (p : Protocol) (c : Cube) (summary : Summary) (consistent : B
   pub own : IsSummary p c summary
   pub met : IsTrue consistent → IsConsistent p c.width c.lits
 
+-- no marks
+abbrev pub no_summary : Summary
+no_summary = record { needs = filled 0; offers = filled 0 }
+
 -- a summary of the list, and one without marks past its end
 abbrev pub summary_at : List Summary → ℕ → Summary
-summary_at summaries i = slice_index_or summaries i (record { needs = filled 0; offers = filled 0 })
+summary_at summaries i = slice_index_or summaries i no_summary
 
 -- cubes that may be asked about, and the summary of each
 pub record AreSummed (p : Protocol) (cubes : List Cube) (summaries : List Summary) : Type 0 where
   pub askable : All (IsAskable p) cubes
   pub one_each : length summaries ≡ length cubes
   pub own : (i : ℕ) → i < length cubes → IsSummary p (cube_at cubes i) (summary_at summaries i)
+
+-- the first of the cubes, so many, may be asked about, and each has its summary
+pub record AreSummedTo (p : Protocol) (upto : ℕ) (cubes : List Cube) (summaries : List Summary) : Type 0 where
+  pub within : upto ≤ length cubes
+  pub enough : upto ≤ length summaries
+  pub askable : (i : ℕ) → i < upto → IsAskable p (cube_at cubes i)
+  pub own : (i : ℕ) → i < upto → IsSummary p (cube_at cubes i) (summary_at summaries i)
 
 -- the cubes are in groups of that size, and each is one of those that its group's summary is of
 abbrev pub AreGrouped : Protocol → ℕ → List Cube → List Summary → Type 0

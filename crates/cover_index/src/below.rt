@@ -1,16 +1,15 @@
-//! Searches for cubes that a given one covers. Each of them is a small cube here, so it matters whether some state meets
-//! it: that is found out once for each cube of a list, and its number is kept.
+//! Searches in a few cubes for those that a given one covers. Each of them is a small cube here, so it matters whether some
+//! state meets it: that is found out once for each cube, and the number of the first that are all met is kept.
 
-ghost use Rattle.std.specs.Prelude.{◌≡◌, ◌*◌, ◌^◌, ◌<◌, ◌≤◌, length, All};
+ghost use Rattle.std.specs.Prelude.{◌≡◌, ◌^◌, ◌<◌, ◌≤◌, length, All};
 ghost use Rattle.log_form.specs.Pieces.{IsAskable};
 ghost use Rattle.log_form.specs.Links.{IsFirstUnder};
 ghost use Rattle.theory.specs.Made.{IsFor};
 ghost use Rattle.subsume.specs.Summary.{IsSummary};
 ghost use Rattle.cover_index.specs.Counted.{RisesForUnder};
-ghost use Rattle.cover_index.specs.Asked.{AreSummed, AreGrouped, AreMet};
+ghost use Rattle.cover_index.specs.Asked.{AreSummedTo, AreMet};
 
 use crate::candidates::{covers_listed, keys_pass};
-use crate::parts::next_below;
 use crate::summaries::Summaries;
 use cub_base::Places;
 use cub_cube::Cube;
@@ -55,8 +54,7 @@ pub(crate) fn first_among(
     requires made { IsFor protocol.now scratch.old }
     requires fit { IsAskable protocol.now cube.now }
     requires own { IsSummary protocol.now cube.now own.now }
-    requires summed { AreSummed protocol.now cubes.now summaries.now }
-    requires within { upto ≤ length cubes.now }
+    requires summed { AreSummedTo protocol.now upto cubes.now summaries.now }
     requires met { AreMet protocol.now cubes.now met }
     ensures made { IsFor protocol.now scratch.new }
     ensures first { IsFirstUnder protocol.now cubes.now from upto cube.now result }
@@ -75,48 +73,6 @@ pub(crate) fn first_among(
             Some(places) => return Some((i, places)),
             None => {}
         }
-    }
-    None
-}
-
-/// The first cube from `start` on that the given one covers. Of the first `met` cubes it is known that some state meets
-/// each.
-pub(crate) fn first_under(
-    scratch: &mut Scratch,
-    protocol: &Protocol,
-    cubes: &[Cube],
-    summaries: &Summaries,
-    groups: &[Summary],
-    larger: &[Summary],
-    met: u32,
-    start: u32,
-    cube: &Cube,
-) -> Option<(u32, Places)>
-    requires made { IsFor protocol.now scratch.old }
-    requires fit { IsAskable protocol.now cube.now }
-    requires summed { AreSummed protocol.now cubes.now summaries.now }
-    requires groups { AreGrouped protocol.now 64 cubes.now groups.now }
-    requires larger { AreGrouped protocol.now 4096 cubes.now larger.now }
-    requires met { AreMet protocol.now cubes.now met }
-    requires groups_room { length cubes.now ≤ 64 * length groups.now }
-    requires larger_room { length cubes.now ≤ 4096 * length larger.now }
-    requires few { length cubes.now < 2 ^ 32 }
-    ensures made { IsFor protocol.now scratch.new }
-    ensures first { IsFirstUnder protocol.now cubes.now start (length cubes.now) cube.now result }
-    ensures tests { RisesForUnder protocol.now cubes.now start (length cubes.now) cube.now scratch.old.tests scratch.new.tests }
-{
-    let own = Summary::of(protocol, cube);
-    let upto = cubes.len() as u32;
-    let mut at = start;
-    while at < upto {
-        let (from, end) = next_below(groups, larger, at, upto, &own, met);
-        match first_among(
-            scratch, protocol, cubes, summaries, from, end, cube, &own, met,
-        ) {
-            Some(found) => return Some(found),
-            None => {}
-        }
-        at = end;
     }
     None
 }

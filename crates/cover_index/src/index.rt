@@ -8,26 +8,26 @@ ghost use Rattle.theory.specs.Made.{IsFor};
 ghost use Rattle.cover_index.specs.Counted.{RisesForCovers, RisesForUnder};
 ghost use Rattle.cover_index.specs.Indexed.{IsServing};
 
-use crate::above::{first_cover, some_cover};
-use crate::below::{count_met, first_under};
+use crate::list_above::{first_cover, some_cover};
+use crate::list_below::{count_met, first_under};
 use crate::noting::{groups_of, note, revive};
 use crate::parts::{GROUP, LARGER};
-use crate::summaries::Summaries;
-use cub_base::{Items, Memory, Places};
-use cub_cube::{Cube, Cubes};
+use crate::store::Store;
+use cub_base::{Memory, Places};
+use cub_cube::Cube;
 use cub_proto::Protocol;
 use std::alloc::Global;
 use std::marker::Model;
 use subsume::{Finder, Summary};
 use theory::Scratch;
 
-/// A list of cubes with a summary of each, of each 64 and of each 4096. A search tests candidates alone.
+/// A list of cubes with a summary of each, of each 64 and of each 4096. A search tests candidates alone. The cubes lie in
+/// segments of 64 that several lists can share.
 #[derive(Drop)]
 pub struct Index {
-    cubes: Cubes,
+    store: Store,
     // by which later cube each is retired; 0 where by none
     retired: Vec<u32>,
-    summaries: Summaries,
     groups: Vec<Summary>,
     larger: Vec<Summary>,
     // how many of the first cubes are known to be met by some state
@@ -42,9 +42,9 @@ impl Model for Index {
 
     ghost Value = { Indexed };
 
-    ghost view = { λ s. record { cubes = s.cubes; retired = s.retired.items; summaries = s.summaries; groups = s.groups.items; larger = s.larger.items; met = s.met } };
+    ghost view = { λ s. record { cubes = s.store.cubes; retired = s.retired.items; summaries = s.store.summaries; groups = s.groups.items; larger = s.larger.items; met = s.met } };
 
-    ghost invariant = { λ s. (length s.retired.items ≡ length s.cubes) × (length s.summaries ≡ length s.cubes) × (length s.cubes < 2 ^ 32) × (length s.cubes ≤ 64 * length s.groups.items) × (length s.cubes ≤ 4096 * length s.larger.items) × (s.met ≤ length s.cubes) };
+    ghost invariant = { λ s. (length s.retired.items ≡ length s.store.cubes) × (length s.store.summaries ≡ length s.store.cubes) × (length s.store.cubes < 2 ^ 32) × (length s.store.cubes ≤ 64 * length s.groups.items) × (length s.store.cubes ≤ 4096 * length s.larger.items) × (s.met ≤ length s.store.cubes) };
 }
 
 impl Index {
@@ -53,14 +53,32 @@ impl Index {
         ensures { result ≡ record { cubes = []; retired = []; summaries = []; groups = []; larger = []; met = 0 } }
     {
         Index {
-            cubes: Items::new(alloc),
+            store: Store::new(alloc),
             retired: Vec::new(alloc),
-            summaries: Summaries::new(alloc),
             groups: Vec::new(alloc),
             larger: Vec::new(alloc),
             met: 0,
             last: 0,
         }
+    }
+
+    /// An equal list that shares the segments. What one of the two gains or loses afterwards, the other does not.
+    pub fn share(&self) -> Result<Index, Memory>
+        ensures { IfOk result (λ list. list ≡ self.now) }
+    {
+        let alloc = *self.retired.allocator();
+        let store = self.store.share()?;
+        let retired = Vec::from_slice(alloc, self.retired.as_slice())?;
+        let groups = Vec::from_slice(alloc, self.groups.as_slice())?;
+        let larger = Vec::from_slice(alloc, self.larger.as_slice())?;
+        Ok(Index {
+            store,
+            retired,
+            groups,
+            larger,
+            met: self.met,
+            last: self.last,
+        })
     }
 }
 
@@ -72,11 +90,10 @@ impl Finder<Scratch> for Index {
     ghost serves = { λ s p. IsServing p s };
 
     fn push(&mut self, protocol: &Protocol, cube: Cube) -> Result<u32, (Cube, Memory)> {
-        let number = self.cubes.len() as u32;
+        let number = self.store.count();
         let own = Summary::of(protocol, &cube);
         match note(
             &mut self.retired,
-            &mut self.summaries,
             &mut self.groups,
             &mut self.larger,
             number,
@@ -85,12 +102,11 @@ impl Finder<Scratch> for Index {
             Ok(()) => {}
             Err(_) => return Err((cube, Memory)),
         }
-        match self.cubes.push(cube) {
+        match self.store.push(cube, &own) {
             Ok(()) => Ok(number),
-            Err(failed) => {
+            Err(refused) => {
                 self.retired.truncate(number as usize);
-                self.summaries.truncate(number as usize);
-                Err((failed.value, Memory))
+                Err(refused)
             }
         }
     }
@@ -114,8 +130,7 @@ impl Finder<Scratch> for Index {
         first_cover(
             scratch,
             protocol,
-            self.cubes.as_slice(),
-            &self.summaries,
+            &self.store,
             self.groups.as_slice(),
             self.larger.as_slice(),
             start,
@@ -139,12 +154,11 @@ impl Finder<Scratch> for Index {
         ensures made { IsFor protocol.now scratch.new }
         ensures tests { RisesForUnder protocol.now self.old.cubes start (length self.old.cubes) cube.now scratch.old.tests scratch.new.tests }
     {
-        self.met = count_met(scratch, protocol, self.cubes.as_slice(), self.met);
+        self.met = count_met(scratch, protocol, &self.store, self.met);
         first_under(
             scratch,
             protocol,
-            self.cubes.as_slice(),
-            &self.summaries,
+            &self.store,
             self.groups.as_slice(),
             self.larger.as_slice(),
             self.met,
@@ -166,8 +180,7 @@ impl Finder<Scratch> for Index {
         match some_cover(
             scratch,
             protocol,
-            self.cubes.as_slice(),
-            &self.summaries,
+            &self.store,
             self.groups.as_slice(),
             self.larger.as_slice(),
             self.retired.as_slice(),
@@ -183,11 +196,11 @@ impl Finder<Scratch> for Index {
     }
 
     fn count(&self) -> u32 {
-        self.cubes.len() as u32
+        self.store.count()
     }
 
     fn cube(&self, number: u32) -> &Cube {
-        &self.cubes.as_slice()[number as usize]
+        self.store.cube(number)
     }
 
     fn retire(&mut self, _protocol: &Protocol, number: u32, by: u32) {
@@ -196,8 +209,7 @@ impl Finder<Scratch> for Index {
 
     fn cut(&mut self, count: u32) {
         let kept = count as usize;
-        self.cubes.truncate(kept);
-        self.summaries.truncate(kept);
+        self.store.cut(count);
         self.groups.truncate(groups_of(kept, GROUP));
         self.larger.truncate(groups_of(kept, LARGER));
         self.retired.truncate(kept);

@@ -10,21 +10,36 @@ mod candidates;
 // Parts that are passed over.
 mod parts;
 
-// Cubes that cover a given one.
+// Cubes among a few that cover a given one.
 mod above;
 
-// Cubes that a given one covers.
+// Cubes among a few that a given one covers.
 mod below;
+
+// Cubes that no longer change.
+mod segment;
+
+pub use segment::Segment;
+
+// Segments with several owners.
+mod shared;
 
 // What is kept beside the cubes.
 mod noting;
+
+// The cubes of a list.
+mod store;
+
+// Cubes of a list that cover a given one.
+mod list_above;
+
+// Cubes of a list that a given one covers.
+mod list_below;
 
 // The list.
 mod index;
 
 pub use index::Index;
 
-// Cubes that no longer change.
-mod segment;
-
-pub use segment::Segment;
+#[cfg(test)]
+mod tests;

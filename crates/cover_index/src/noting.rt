@@ -1,10 +1,9 @@
-//! What is kept beside the cubes: who retired them, and their summaries.
+//! What is kept beside the cubes: who retired them, and the summaries of groups of them.
 
 ghost use Rattle.std.specs.Prelude.{◌≡◌, ◌∷◌, ◌++◌, ◌*◌, ◌^◌, ◌/◌, ◌<◌, ◌≤◌, [], length, map, nat_lt, if◌then◌else◌, OnOk, OnErr};
 ghost use Rattle.cover_index.specs.Asked.{summary_at, AreKept, Joins};
 
 use crate::parts::{GROUP, LARGER};
-use crate::summaries::Summaries;
 use cub_base::Memory;
 use subsume::Summary;
 
@@ -25,36 +24,10 @@ fn join_at(groups: &mut Vec<Summary>, at: usize, own: &Summary) -> Result<(), Me
     }
 }
 
-// Notes a cube that none has retired, and its summary.
-fn note_alone(
-    retired: &mut Vec<u32>,
-    summaries: &mut Summaries,
-    own: &Summary,
-) -> Result<(), Memory>
-    ensures retired_ok { OnOk result (retired.new.items ≡ retired.old.items ++ 0 ∷ []) }
-    ensures summaries_ok { OnOk result (summaries.new ≡ summaries.old ++ own.now ∷ []) }
-    ensures retired_err { OnErr result (retired.new.items ≡ retired.old.items) }
-    ensures summaries_err { OnErr result (summaries.new ≡ summaries.old) }
-{
-    let count = retired.len();
-    match retired.push(0) {
-        Ok(()) => {}
-        Err(_) => return Err(Memory),
-    }
-    match summaries.push(own) {
-        Ok(()) => Ok(()),
-        Err(_) => {
-            retired.truncate(count);
-            Err(Memory)
-        }
-    }
-}
-
-/// Notes the summary of one more cube, which none has retired. Refused, only groups may have changed, to summaries of more
+/// Notes one more cube, which none has retired, by its summary. Refused, only groups may have changed, to summaries of more
 /// cubes.
 pub(crate) fn note(
     retired: &mut Vec<u32>,
-    summaries: &mut Summaries,
     groups: &mut Vec<Summary>,
     larger: &mut Vec<Summary>,
     number: u32,
@@ -63,9 +36,7 @@ pub(crate) fn note(
     requires groups_room { number ≤ 64 * length groups.old.items }
     requires larger_room { number ≤ 4096 * length larger.old.items }
     ensures retired_ok { OnOk result (retired.new.items ≡ retired.old.items ++ 0 ∷ []) }
-    ensures summaries_ok { OnOk result (summaries.new ≡ summaries.old ++ own.now ∷ []) }
     ensures retired_err { OnErr result (retired.new.items ≡ retired.old.items) }
-    ensures summaries_err { OnErr result (summaries.new ≡ summaries.old) }
     ensures groups_kept { AreKept groups.old.items groups.new.items }
     ensures larger_kept { AreKept larger.old.items larger.new.items }
     ensures groups_there { OnOk result (number / 64 < length groups.new.items) }
@@ -75,7 +46,10 @@ pub(crate) fn note(
 {
     join_at(groups, (number / GROUP) as usize, own)?;
     join_at(larger, (number / LARGER) as usize, own)?;
-    note_alone(retired, summaries, own)
+    match retired.push(0) {
+        Ok(()) => Ok(()),
+        Err(_) => Err(Memory),
+    }
 }
 
 // The cube that retired another, if it is one of the first.

@@ -1,7 +1,7 @@
 //! Parts of a list that are passed over whole. The cubes are in groups of 64 and in larger ones of 4096, each with one
-//! summary. A walk goes from part to part: a larger group, a group, or the cubes of a group that have to be looked at.
+//! summary; a group is a segment of the list. A walk goes from part to part: a larger group, a group, or the cubes of a group that have to be looked at.
 
-ghost use Rattle.std.specs.Prelude.{◌≡◌, ◌+◌, ◌*◌, ◌/◌, ◌<◌, ◌≤◌, ℕ, List, length, IsTrue, All};
+ghost use Rattle.std.specs.Prelude.{◌≡◌, ◌+◌, ◌-◌, ◌*◌, ◌/◌, ◌%◌, ◌<◌, ◌≤◌, ℕ, List, length, IsTrue, All};
 ghost use Rattle.cub_proto.specs.declared.protocol.Protocol.{Protocol};
 ghost use Rattle.cub_cube.specs.declared.cube.Cube.{Cube};
 ghost use Rattle.cub_cube.specs.Cover.{DoesCover};
@@ -27,6 +27,7 @@ fn part_end(at: u32, size: u32, upto: u32) -> u32
     ensures further { at < result }
     ensures within { result ≤ upto }
     ensures part { (i : ℕ) → at ≤ i → i < result → i / size ≡ at / size }
+    ensures near { result ≤ at + (size - at % size) }
 {
     let left = size - at % size;
     if upto - at <= left { upto } else { at + left }
@@ -49,6 +50,7 @@ pub(crate) fn next_above(
     ensures order { result.0 ≤ result.1 }
     ensures further { at < result.1 }
     ensures within { result.1 ≤ upto }
+    ensures near { result.1 ≤ result.0 + (64 - result.0 % 64) }
     ensures none { (p : Protocol) (cubes : List Cube) (c : Cube) → upto ≤ length cubes → All (IsAskable p) cubes
         → AreGrouped p 64 cubes groups.now → AreGrouped p 4096 cubes larger.now → IsOf p c own.now → IsAskable p c
         → (IsTrue consistent → IsConsistent p c.width c.lits)
@@ -82,6 +84,7 @@ pub(crate) fn next_below(
     ensures order { result.0 ≤ result.1 }
     ensures further { at < result.1 }
     ensures within { result.1 ≤ upto }
+    ensures near { result.1 ≤ result.0 + (64 - result.0 % 64) }
     ensures none { (p : Protocol) (cubes : List Cube) (c : Cube) → upto ≤ length cubes → All (IsAskable p) cubes
         → AreGrouped p 64 cubes groups.now → AreGrouped p 4096 cubes larger.now → IsOf p c own.now → IsAskable p c
         → AreMet p cubes met

@@ -3,6 +3,7 @@ use Rattle.std.proofs.lemmas.Bool.{ltb-true}
 use Rattle.cub_cube.specs.declared.cube.Cube.{Cube}
 use Rattle.cub_cube.specs.Meaning.{IsConsistent}
 use Rattle.cub_cube.specs.Cover.{DoesCover, CoversLeast}
+use Rattle.log_form.specs.Pieces.{IsAskable}
 use Rattle.log_form.specs.Links.{cube_at}
 use Rattle.subsume.specs.Summary.{IsSummary, IsCandidate}
 use Rattle.subsume.specs.declared.summary.Summary.{Summary}
@@ -10,27 +11,33 @@ use Rattle.subsume.proofs.Summarized.{own_summary}
 use Rattle.subsume.proofs.Retiring.{cube_read}
 use Rattle.cover_index.specs.Counted.{RisesIf}
 use Rattle.cover_index.specs.Asked.{summary_at, offers_key}
-use Rattle.cover_index.proofs.Searching.{rises_one, rises_none, rises_from, under_further, none_one, key_is, askable_at}
+use Rattle.cover_index.proofs.Searching.{rises_one, rises_none, rises_from, under_further, none_one, key_is}
 use Rattle.cover_index.proofs.below.first_among.Goals as goal
+
+pub covers_listed-requires-clause-small_fit : goal.covers_listed-requires-clause-small_fit
+covers_listed-requires-clause-small_fit c =
+    let i = c.loop-i.i in
+    let below : i < length c.args.cubes.now = omega (arith, c.requires.summed.within) in
+    subst (λ (x : Cube). IsAskable c.args.protocol.now x) (cube_read c.args.cubes.now i c.index-cubes-i.result below c.index-cubes-i.is) (c.requires.summed.askable i (omega arith))
 
 pub covers_listed-requires-clause-summary : goal.covers_listed-requires-clause-summary
 covers_listed-requires-clause-summary c =
     let i = c.loop-i.i in
-    let below : i < length c.args.cubes.now = omega (arith, c.requires.within) in
+    let below : i < length c.args.cubes.now = omega (arith, c.requires.summed.within) in
     subst (λ (ss : List Summary). IsSummary c.args.protocol.now c.index-cubes-i.result (summary_at ss i)) (sym c.as_slice-all.ensures)
     (subst (λ (x : Cube). IsSummary c.args.protocol.now x (summary_at c.args.summaries.now i)) (cube_read c.args.cubes.now i c.index-cubes-i.result below c.index-cubes-i.is)
-    (c.requires.summed.own i below))
+    (c.requires.summed.own i (omega arith)))
 
 pub loop-i-preserved-then-keys_pass : goal.loop-i-preserved-then-keys_pass
 loop-i-preserved-then-keys_pass c =
     let p = c.args.protocol.now in
     let cubes = c.args.cubes.now in
     let i = c.loop-i.i in
-    let below : i < length cubes = omega (arith, c.requires.within) in
+    let below : i < length cubes = omega (arith, c.requires.summed.within) in
     let none : DoesCover p c.args.cube.now (cube_at cubes i) → ⊥ =
     c.keys_pass.ensures c.if-keys_pass.true p c.args.cube.now (cube_at cubes i) c.args.own.now (summary_at c.args.summaries.now i) refl
-    (key_is offers_key c.offers-offers.result.now c.args.summaries.now i c.offers-offers.ensures (omega (arith, below, c.requires.summed.one_each)))
-    (own_summary _ _ _ c.requires.own) (own_summary _ _ _ (c.requires.summed.own i below)) c.requires.fit (askable_at p cubes i c.requires.summed.askable below) (λ h. c.requires.met i (ltb-true _ _ h) below) in
+    (key_is offers_key c.offers-offers.result.now c.args.summaries.now i c.offers-offers.ensures (omega (arith, c.requires.summed.enough)))
+    (own_summary _ _ _ c.requires.own) (own_summary _ _ _ (c.requires.summed.own i (omega arith))) c.requires.fit (c.requires.summed.askable i (omega arith)) (λ h. c.requires.met i (ltb-true _ _ h) below) in
     record {
       made = c.loop-i.invariant.made;
       first = λ r h. c.loop-i.invariant.first r (under_further p cubes c.args.cube.now i (i + 1) c.args.upto r (omega arith) (none_one (λ j. DoesCover p c.args.cube.now (cube_at cubes j)) i none) h);
@@ -40,14 +47,14 @@ loop-i-preserved-then-keys_pass c =
 pub covers_listed-requires-clause-met : goal.covers_listed-requires-clause-met
 covers_listed-requires-clause-met c h =
     let i = c.loop-i.i in
-    let below : i < length c.args.cubes.now = omega (arith, c.requires.within) in
+    let below : i < length c.args.cubes.now = omega (arith, c.requires.summed.within) in
     subst (λ (x : Cube). IsConsistent c.args.protocol.now x.width x.lits) (cube_read c.args.cubes.now i c.index-cubes-i.result below c.index-cubes-i.is)
     (c.requires.met i (ltb-true _ _ h) below)
 
 pub returns-in-Some-clause-first : goal.returns-in-Some-clause-first
 returns-in-Some-clause-first c =
     let i = c.loop-i.i in
-    let below : i < length c.args.cubes.now = omega (arith, c.requires.within) in
+    let below : i < length c.args.cubes.now = omega (arith, c.requires.summed.within) in
     let here : cube_at c.args.cubes.now i ≡ c.index-cubes-i.result = cube_read c.args.cubes.now i c.index-cubes-i.result below c.index-cubes-i.is in
     c.loop-i.invariant.first (Some (i, c.in-Some.places)) (
       omega arith,
@@ -59,7 +66,7 @@ returns-in-Some-clause-first c =
 pub returns-in-Some-clause-tests : goal.returns-in-Some-clause-tests
 returns-in-Some-clause-tests c =
     let i = c.loop-i.i in
-    let below : i < length c.args.cubes.now = omega (arith, c.requires.within) in
+    let below : i < length c.args.cubes.now = omega (arith, c.requires.summed.within) in
     let here : cube_at c.args.cubes.now i ≡ c.index-cubes-i.result = cube_read c.args.cubes.now i c.index-cubes-i.result below c.index-cubes-i.is in
     let P : ℕ → Type 0 = λ j. IsCandidate c.args.protocol.now c.args.cube.now (cube_at c.args.cubes.now j) in
     let new = c.covers_listed.new.scratch.tests in
@@ -70,7 +77,7 @@ returns-in-Some-clause-tests c =
 pub loop-i-preserved : goal.loop-i-preserved
 loop-i-preserved c =
     let i = c.loop-i.i in
-    let below : i < length c.args.cubes.now = omega (arith, c.requires.within) in
+    let below : i < length c.args.cubes.now = omega (arith, c.requires.summed.within) in
     let here : cube_at c.args.cubes.now i ≡ c.index-cubes-i.result = cube_read c.args.cubes.now i c.index-cubes-i.result below c.index-cubes-i.is in
     record {
       made = c.covers_listed.ensures.made;

@@ -7,7 +7,7 @@ use Rattle.cover_index.proofs.index.IndexFinderScratch.retire.Goals as goal
 
 pub returns-clause-serves : goal.returns-clause-serves
 returns-clause-serves c =
-    let s : Indexed = record { cubes = c.self.inside.cubes; retired = c.self.inside.retired.items; summaries = c.self.inside.summaries; groups = c.self.inside.groups.items; larger = c.self.inside.larger.items; met = c.self.inside.met } in
+    let s : Indexed = record { cubes = c.self.inside.store.cubes; retired = c.self.inside.retired.items; summaries = c.self.inside.store.summaries; groups = c.self.inside.groups.items; larger = c.self.inside.larger.items; met = c.self.inside.met } in
     let same : c.args.self.now ≡ s = sym c.self.view_is in
     retire_serves c.args._protocol.now s c.args.number c.args.by c.self.invariant.0
     (subst (λ (x : Indexed). IsServing c.args._protocol.now x) same c.requires.serves) c.requires.later

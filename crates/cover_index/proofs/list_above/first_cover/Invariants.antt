@@ -1,0 +1,15 @@
+use Rattle.std.proofs.Common.{length, ℕ, ◌-◌, Option}
+use Rattle.log_form.specs.Links.{Link, IsFirstCover}
+use Rattle.cover_index.specs.Counted.{RisesForCovers}
+use Rattle.cover_index.specs.Asked.{IsAsked}
+use Rattle.cover_index.proofs.list_above.first_cover.Given as goal
+
+abbrev pub invariant-loop-at : goal.invariant-loop-at
+invariant-loop-at l = record {
+  asked : IsAsked l.protocol l.cube l.own l.consistent l.scratch;
+  first : (r : Option Link) → IsFirstCover l.protocol l.store.cubes l.at (length l.store.cubes) l.cube r → IsFirstCover l.protocol l.store.cubes l.start (length l.store.cubes) l.cube r;
+  tests : (new : ℕ) → RisesForCovers l.protocol l.store.cubes l.at (length l.store.cubes) l.cube l.scratch.tests new → RisesForCovers l.protocol l.store.cubes l.start (length l.store.cubes) l.cube l.initial.scratch.tests new;
+}
+
+abbrev pub decreases-loop-at : goal.decreases-loop-at
+decreases-loop-at l = l.upto - l.at

@@ -1,0 +1,248 @@
+//! Searches of a whole list for cubes that cover a given one. It is closed once a search.
+
+ghost use Rattle.std.specs.Prelude.{◌≡◌, ◌*◌, ◌+◌, ◌-◌, ◌%◌, ◌^◌, ◌<◌, ◌≤◌, ℕ, false, length, slice_index, IsTrue, IfSome, IfNone};
+ghost use Rattle.cub_cube.specs.Cover.{DoesCover, IsCovered};
+ghost use Rattle.log_form.specs.Pieces.{IsAskable};
+ghost use Rattle.log_form.specs.Links.{cube_at, IsFirstCover};
+ghost use Rattle.theory.specs.Made.{IsFor};
+ghost use Rattle.subsume.specs.Scanned.{AreRetired};
+ghost use Rattle.subsume.specs.Summary.{IsOf};
+ghost use Rattle.cover_index.specs.Counted.{RisesForCovers};
+ghost use Rattle.cover_index.specs.Asked.{IsAsked, AreSummed, AreGrouped};
+
+use crate::above::{first_among, some_among};
+use crate::parts::{GROUP, next_above};
+use crate::store::Store;
+use cub_base::Places;
+use cub_cube::Cube;
+use cub_proto::Protocol;
+use subsume::{Summary, load_small};
+use theory::Scratch;
+
+// The first cube from one number up to another, all of one segment, that covers the loaded one.
+fn first_in(
+    scratch: &mut Scratch,
+    protocol: &Protocol,
+    store: &Store,
+    from: u32,
+    upto: u32,
+    cube: &Cube,
+    own: &Summary,
+    consistent: bool,
+) -> Option<(u32, Places)>
+    requires asked { IsAsked protocol.now cube.now own.now consistent scratch.old }
+    requires summed { AreSummed protocol.now store.now.cubes store.now.summaries }
+    requires order { from ≤ upto }
+    requires within { upto ≤ length store.now.cubes }
+    requires near { upto ≤ from + (64 - from % 64) }
+    ensures asked { IsAsked protocol.now cube.now own.now consistent scratch.new }
+    ensures first { IsFirstCover protocol.now store.now.cubes from upto cube.now result }
+    ensures tests { RisesForCovers protocol.now store.now.cubes from upto cube.now scratch.old.tests scratch.new.tests }
+{
+    if from == upto {
+        return None;
+    }
+    let low = from % GROUP;
+    let base = from - low;
+    let segment = store.segment(from);
+    match first_among(
+        scratch,
+        protocol,
+        segment.cubes(),
+        segment.summaries(),
+        low,
+        upto - base,
+        cube,
+        own,
+        consistent,
+    ) {
+        Some((i, places)) => Some((base + i, places)),
+        None => None,
+    }
+}
+
+/// The first cube from `start` on that covers the given one.
+pub(crate) fn first_cover(
+    scratch: &mut Scratch,
+    protocol: &Protocol,
+    store: &Store,
+    groups: &[Summary],
+    larger: &[Summary],
+    start: u32,
+    cube: &Cube,
+) -> Option<(u32, Places)>
+    requires made { IsFor protocol.now scratch.old }
+    requires fit { IsAskable protocol.now cube.now }
+    requires summed { AreSummed protocol.now store.now.cubes store.now.summaries }
+    requires groups { AreGrouped protocol.now 64 store.now.cubes groups.now }
+    requires larger { AreGrouped protocol.now 4096 store.now.cubes larger.now }
+    requires groups_room { length store.now.cubes ≤ 64 * length groups.now }
+    requires larger_room { length store.now.cubes ≤ 4096 * length larger.now }
+    ensures made { IsFor protocol.now scratch.new }
+    ensures first { IsFirstCover protocol.now store.now.cubes start (length store.now.cubes) cube.now result }
+    ensures tests { RisesForCovers protocol.now store.now.cubes start (length store.now.cubes) cube.now scratch.old.tests scratch.new.tests }
+{
+    let own = Summary::of(protocol, cube);
+    let consistent = load_small(scratch, protocol, cube);
+    let upto = store.count();
+    let mut at = start;
+    while at < upto {
+        let (from, end) = next_above(groups, larger, at, upto, &own, consistent);
+        match first_in(scratch, protocol, store, from, end, cube, &own, consistent) {
+            Some(found) => return Some(found),
+            None => {}
+        }
+        at = end;
+    }
+    None
+}
+
+// Whether a cube from one number up to another, all of one segment, that none has retired covers the loaded one.
+fn some_in(
+    scratch: &mut Scratch,
+    protocol: &Protocol,
+    store: &Store,
+    retired: &[u32],
+    from: u32,
+    upto: u32,
+    cube: &Cube,
+    own: &Summary,
+    consistent: bool,
+) -> bool
+    requires asked { IsAsked protocol.now cube.now own.now consistent scratch.old }
+    requires summed { AreSummed protocol.now store.now.cubes store.now.summaries }
+    requires one_each { length retired.now ≡ length store.now.cubes }
+    requires order { from ≤ upto }
+    requires within { upto ≤ length store.now.cubes }
+    requires near { upto ≤ from + (64 - from % 64) }
+    ensures asked { IsAsked protocol.now cube.now own.now consistent scratch.new }
+    ensures some { IsTrue result → IsCovered protocol.now store.now.cubes cube.now }
+    ensures none { result ≡ false → (i : ℕ) → from ≤ i → i < upto → slice_index retired.now i ≡ 0 → DoesCover protocol.now (cube_at store.now.cubes i) cube.now → ⊥ }
+    ensures tests { RisesForCovers protocol.now store.now.cubes from upto cube.now scratch.old.tests scratch.new.tests }
+{
+    if from == upto {
+        return false;
+    }
+    let low = from % GROUP;
+    let base = from - low;
+    let segment = store.segment(from);
+    some_among(
+        scratch,
+        protocol,
+        segment.cubes(),
+        segment.summaries(),
+        retired,
+        base,
+        low,
+        upto - base,
+        cube,
+        own,
+        consistent,
+    )
+}
+
+// A part from one number up to another in which a cube that none has retired covers the loaded one, if there is one.
+fn part_with_cover(
+    scratch: &mut Scratch,
+    protocol: &Protocol,
+    store: &Store,
+    groups: &[Summary],
+    larger: &[Summary],
+    retired: &[u32],
+    start: u32,
+    upto: u32,
+    cube: &Cube,
+    own: &Summary,
+    consistent: bool,
+) -> Option<u32>
+    requires asked { IsAsked protocol.now cube.now own.now consistent scratch.old }
+    requires own { IsOf protocol.now cube.now own.now }
+    requires summed { AreSummed protocol.now store.now.cubes store.now.summaries }
+    requires groups { AreGrouped protocol.now 64 store.now.cubes groups.now }
+    requires larger { AreGrouped protocol.now 4096 store.now.cubes larger.now }
+    requires one_each { length retired.now ≡ length store.now.cubes }
+    requires groups_room { length store.now.cubes ≤ 64 * length groups.now }
+    requires larger_room { length store.now.cubes ≤ 4096 * length larger.now }
+    requires order { start ≤ upto }
+    requires within { upto ≤ length store.now.cubes }
+    ensures asked { IsAsked protocol.now cube.now own.now consistent scratch.new }
+    ensures some { IfSome result (λ n. IsCovered protocol.now store.now.cubes cube.now) }
+    ensures none { IfNone result ((i : ℕ) → start ≤ i → i < upto → slice_index retired.now i ≡ 0 → DoesCover protocol.now (cube_at store.now.cubes i) cube.now → ⊥) }
+    ensures tests { RisesForCovers protocol.now store.now.cubes start upto cube.now scratch.old.tests scratch.new.tests }
+{
+    let mut at = start;
+    while at < upto {
+        let (from, end) = next_above(groups, larger, at, upto, own, consistent);
+        if some_in(
+            scratch, protocol, store, retired, from, end, cube, own, consistent,
+        ) {
+            return Some(at);
+        }
+        at = end;
+    }
+    None
+}
+
+// The group of the number, cut at the end of the list; nothing where the number is past it.
+fn group_of(number: u32, upto: u32) -> (u32, u32)
+    ensures order { result.0 ≤ result.1 }
+    ensures within { result.1 ≤ upto }
+{
+    if number >= upto {
+        return (upto, upto);
+    }
+    let from = number - number % GROUP;
+    if upto - from <= GROUP {
+        (from, upto)
+    } else {
+        (from, from + GROUP)
+    }
+}
+
+/// A number near a cube that covers the given one, if some cube does. Retired cubes are passed over: what covers them comes
+/// later. The group of `last` is looked at first, then what comes behind it, then what is before: pieces that are asked about
+/// one after the other are often covered by the same cube.
+pub(crate) fn some_cover(
+    scratch: &mut Scratch,
+    protocol: &Protocol,
+    store: &Store,
+    groups: &[Summary],
+    larger: &[Summary],
+    retired: &[u32],
+    last: u32,
+    cube: &Cube,
+) -> Option<u32>
+    requires made { IsFor protocol.now scratch.old }
+    requires fit { IsAskable protocol.now cube.now }
+    requires summed { AreSummed protocol.now store.now.cubes store.now.summaries }
+    requires groups { AreGrouped protocol.now 64 store.now.cubes groups.now }
+    requires larger { AreGrouped protocol.now 4096 store.now.cubes larger.now }
+    requires covered { AreRetired protocol.now store.now.cubes retired.now }
+    requires one_each { length retired.now ≡ length store.now.cubes }
+    requires groups_room { length store.now.cubes ≤ 64 * length groups.now }
+    requires larger_room { length store.now.cubes ≤ 4096 * length larger.now }
+    ensures made { IsFor protocol.now scratch.new }
+    ensures some { IfSome result (λ n. IsCovered protocol.now store.now.cubes cube.now) }
+    ensures none { IfNone result (IsCovered protocol.now store.now.cubes cube.now → ⊥) }
+    ensures tests { RisesForCovers protocol.now store.now.cubes 0 (length store.now.cubes) cube.now scratch.old.tests scratch.new.tests }
+{
+    let own = Summary::of(protocol, cube);
+    let consistent = load_small(scratch, protocol, cube);
+    let upto = store.count();
+    let (from, end) = group_of(last, upto);
+    match part_with_cover(
+        scratch, protocol, store, groups, larger, retired, from, end, cube, &own, consistent,
+    ) {
+        Some(near) => return Some(near),
+        None => {}
+    }
+    match part_with_cover(
+        scratch, protocol, store, groups, larger, retired, end, upto, cube, &own, consistent,
+    ) {
+        Some(near) => return Some(near),
+        None => {}
+    }
+    part_with_cover(
+        scratch, protocol, store, groups, larger, retired, 0, from, cube, &own, consistent,
+    )
+}
