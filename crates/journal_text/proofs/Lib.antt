@@ -14,3 +14,7 @@ pub mod BudgetLaws
 pub mod Takes
 pub mod OneLines
 pub mod Again
+pub mod Refused
+pub mod ReadyLaws
+pub mod Looping
+pub mod FullLaws

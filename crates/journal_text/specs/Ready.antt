@@ -1,5 +1,5 @@
 -- The state of a reading behind a whole event, and what a fault there is.
-use Rattle.std.specs.Prelude.{◌≡◌, ℕ, ◌+◌, Bool, false, ◌==◌, if◌then◌else◌, List, length, Option, Some, None}
+use Rattle.std.specs.Prelude.{◌≡◌, ℕ, ◌+◌, Bool, false, ◌==◌, if◌then◌else◌, List, Option, Some, None}
 use Rattle.cub_proto.specs.declared.protocol.Protocol.{Protocol}
 use Rattle.log_form.specs.declared.event.Added.{Added}
 use Rattle.log_form.specs.Pieces.{PieceRelation}
@@ -8,9 +8,8 @@ use Rattle.text_lines.specs.Line.{line_at}
 use Rattle.journal_text.specs.declared.look.Look.{Look}
 use Rattle.journal_text.specs.declared.look.Look.TheVariants.{Formless, Faulty, Item, Expand, Roots, Closing}
 use Rattle.journal_text.specs.declared.fault.JournalFault.{JournalFault}
-use Rattle.journal_text.specs.Text.{expand_text}
-use Rattle.journal_text.specs.Items.{AreItemLines, IsNoItem}
-use Rattle.journal_text.specs.Place.{Place, Adding, event_of, Makes, TakesRoots, GoesOn, IsFaultOf}
+use Rattle.journal_text.specs.Items.{IsNoItem}
+use Rattle.journal_text.specs.Place.{Place, Adding, event_of, Makes, TakesFull, Closes, TakesRoots, GoesOn, IsFaultOf}
 
 -- no line that says that the roots fill the log may stand next
 abbrev pub HasNoRoots : PieceRelation → Bool → LogValue → Option ℕ → List Added → List ℕ → Type 0
@@ -49,15 +48,33 @@ lacking_kind nothing Expand = 4
 lacking_kind nothing Roots = if nothing then 5 else 4
 lacking_kind nothing Closing = 4
 
--- where the expansion of the node stands next, behind a whole event, the expansion with these cubes makes the other log
-abbrev pub ExpandsTo : PieceRelation → Protocol → LogValue → ℕ → List Added → ℕ → List ℕ → LogValue → Type 0
-ExpandsTo P p log node items line rest next =
-    (place : Place) (n : ℕ) (text : List ℕ) (full : Bool) (before : Option ℕ) (here behind : List ℕ) → line_at here ≡ Some (expand_text node, behind)
-    → AreItemLines p (Some node) items behind rest → IsReady P p place n text full before log line here
-    → IsReady P p place n text full (Some node) next (line + 1 + length items) rest
+-- behind lines more the log is made by the event whose lines were read last there, wherever it was so before them
+abbrev pub KeepsReady : PieceRelation → Protocol → Option ℕ → LogValue → ℕ → List ℕ → Option ℕ → LogValue → ℕ → List ℕ → Type 0
+KeepsReady P p before old line text after new later rest =
+    (place : Place) (n : ℕ) (whole : List ℕ) (full : Bool) → IsReady P p place n whole full before old line text → IsReady P p place n whole full after new later rest
 
 -- or the fault is that of the text
-abbrev pub ExpandsNot : PieceRelation → Protocol → LogValue → ℕ → List Added → ℕ → List ℕ → JournalFault → Type 0
-ExpandsNot P p log node items line rest fault =
-    (place : Place) (n : ℕ) (text : List ℕ) (full : Bool) (before : Option ℕ) (here behind : List ℕ) → line_at here ≡ Some (expand_text node, behind)
-    → AreItemLines p (Some node) items behind rest → IsReady P p place n text full before log line here → IsFaultOf P p place n text fault
+abbrev pub FailsReady : PieceRelation → Protocol → Option ℕ → LogValue → ℕ → List ℕ → JournalFault → Type 0
+FailsReady P p node log line text fault =
+    (place : Place) (n : ℕ) (whole : List ℕ) (full : Bool) → IsReady P p place n whole full node log line text → IsFaultOf P p place n whole fault
+
+-- the text goes on with a line that closes the log
+pub record IsClosed (P : PieceRelation) (full : Bool) (log : LogValue) (text : List ℕ) (last : LogValue) (rest : List ℕ) : Type 0 where
+  pub line : List ℕ
+  pub at : line_at text ≡ Some (line, rest)
+  pub closes : Closes P full log line last
+
+-- the text does not go on with such a line
+abbrev pub IsNoClosing : PieceRelation → Bool → LogValue → List ℕ → Type 0
+IsNoClosing P full log text = (last : LogValue) (rest : List ℕ) → IsClosed P full log text last rest → ⊥
+
+-- the text goes on with the line that says that the roots fill the log
+pub record IsFilled (P : PieceRelation) (full : Bool) (log : LogValue) (text : List ℕ) (last : LogValue) (rest : List ℕ) : Type 0 where
+  pub line : List ℕ
+  pub needed : ℕ
+  pub at : line_at text ≡ Some (line, rest)
+  pub takes : TakesFull P full log None needed last line
+
+-- the log is full, by that node, and the line says so
+abbrev pub FillsBy : PieceRelation → Bool → LogValue → List ℕ → LogValue → Type 0
+FillsBy P full log line last = (node needed : ℕ) × TakesFull P full log (Some node) needed last line
