@@ -3,3 +3,4 @@ pub mod Telling
 pub mod Lawful
 pub mod OneProtocol
 pub mod OneAnswer
+pub mod Accepted

@@ -2,6 +2,8 @@
 use Rattle.std.specs.Prelude.{◌≡◌, ℕ, List, [], ◌∷◌, Result, Ok, Err}
 use Rattle.cub_proto.specs.declared.protocol.Protocol.{Protocol}
 use Rattle.cub_words.specs.declared.request.WordsFault.{WordsFault}
+use Rattle.cub_words.specs.declared.request.Command.{Command}
+use Rattle.cub_words.specs.Asked.{asked_by, HasLevels}
 use Rattle.cub_words.specs.Reading.{Request, reading}
 use Rattle.cub_words.specs.Reading.Request.{Check, Verify, Replay, Print, Sample}
 use Rattle.cub_print.specs.Mark.{spelled}
@@ -36,6 +38,10 @@ AnswersReading told taken (Err fault) = AnswersWords (words_code fault.kind) fau
 -- the answer to words
 abbrev pub IsAnswer : Told → ℕ → List (List ℕ) → Answers
 IsAnswer told taken words = AnswersReading told taken (reading words)
+
+-- whichever command was read, its number of levels is one that there may be
+abbrev pub HaveLevels : Result Request WordsFault → Type 0
+HaveLevels read = (command : Command) → read ≡ Ok (asked_by command) → HasLevels command
 
 -- the files of a command, in their order
 abbrev pub files_named : Request → List (List ℕ)

@@ -15,6 +15,14 @@ mod replays;
 #[cfg(test)]
 mod rows;
 #[cfg(test)]
+mod rows_of_certificates;
+#[cfg(test)]
+mod rows_of_logs;
+#[cfg(test)]
+mod rows_of_traces;
+#[cfg(test)]
+mod tabled;
+#[cfg(test)]
 mod tests;
 mod verifies;
 

@@ -1,12 +1,13 @@
 //! The top call: words, a shelf and a sink in, a status out. It loads the files of the words in their order, makes its
 //! whole answer, and then writes it, so want of memory and a failure of the shelf leave nothing written.
 
-ghost use Rattle.std.specs.Prelude.{◌≡◌, ◌≢◌, ◌⊎◌, ℕ, List, map, IfOk, IsErrOf};
+ghost use Rattle.std.specs.Prelude.{◌≡◌, ◌≢◌, ◌⊎◌, ℕ, List, map, true, is_ok, IfOk, IsErrOf};
 ghost use Rattle.io_edge.specs.Faults.{Rose};
 ghost use Rattle.io_edge.specs.Shelf.{AsksFor};
 ghost use Rattle.io_edge.specs.Sink.{with_bytes, WritesPart};
+ghost use Rattle.cub_words.specs.Reading.{reading};
 ghost use Rattle.cub_words.specs.Asked.{asked_by, HasLevels};
-ghost use Rattle.parcub.specs.Answer.{AnswersRequest, IsAnswer, files_named, files_of};
+ghost use Rattle.parcub.specs.Answer.{AnswersRequest, IsAnswer, HaveLevels, files_named, files_of};
 ghost use Rattle.parcub.specs.declared.files.Stop.TheVariants as Stop;
 
 use crate::checks::{checked_answer, sampled_answer};
@@ -18,6 +19,7 @@ use answer_lines::{Answer, at_words_fault};
 use cub_words::{Command, read};
 use io_edge::{Shelf, Sink, put_all};
 use std::alloc::Global;
+use word_parser::parse;
 
 // The answer to a command.
 fn command_answer<S: Shelf>(alloc: Global, command: Command, shelf: &mut S) -> Result<Answer, Stop>
@@ -40,6 +42,19 @@ fn command_answer<S: Shelf>(alloc: Global, command: Command, shelf: &mut S) -> R
     }
 }
 
+// The answer to words that ask for a command. A general parser of command lines reads them once more; it names the same
+// command, by its contract.
+fn accepted_answer<S: Shelf>(alloc: Global, words: &[&str], shelf: &mut S) -> Result<Answer, Stop>
+    requires accepted { is_ok (reading (map (λ word. word.now) words.now)) ≡ true }
+    requires levels { HaveLevels (reading (map (λ word. word.now) words.now)) }
+    ensures asked { AsksFor (S.asked shelf.old) (S.asked shelf.new) (files_of (map (λ word. word.now) words.now)) }
+    ensures answer { IfOk result (λ answer. IsAnswer (S.bytes_of shelf.old) (S.taken shelf.new) (map (λ word. word.now) words.now) answer.status answer.text) }
+    ensures failed { IsErrOf result Stop.Failed → Rose (S.faults shelf.old) (S.faults shelf.new) }
+{
+    let command = parse(alloc, words)?;
+    command_answer(alloc, command, shelf)
+}
+
 // The answer to the words.
 fn answered<S: Shelf>(alloc: Global, words: &[&str], shelf: &mut S) -> Result<Answer, Stop>
     ensures asked { AsksFor (S.asked shelf.old) (S.asked shelf.new) (files_of (map (λ word. word.now) words.now)) }
@@ -47,7 +62,7 @@ fn answered<S: Shelf>(alloc: Global, words: &[&str], shelf: &mut S) -> Result<An
     ensures failed { IsErrOf result Stop.Failed → Rose (S.faults shelf.old) (S.faults shelf.new) }
 {
     match read(words) {
-        Ok(command) => command_answer(alloc, command, shelf),
+        Ok(_command) => accepted_answer(alloc, words, shelf),
         Err(fault) => Ok(at_words_fault(alloc, fault)?),
     }
 }
