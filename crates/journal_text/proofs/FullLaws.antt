@@ -1,9 +1,8 @@
 -- Lines that say that a log is full.
-use Rattle.std.proofs.Common.{◌≡◌, ◌⊎◌, ℕ, ◌+◌, ◌^◌, ◌<◌, ◌≤◌, Bool, true, false, List, [], length, Option, Some, None, refl, sym, ap, subst, ◌∙◌, arith, inl, inr, min, bytes_eq, codes}
-use Rattle.std.specs.Prelude.{if◌then◌else◌}
+use Rattle.std.proofs.Common.{◌≡◌, ◌⊎◌, ℕ, ◌^◌, ◌<◌, Bool, true, false, List, [], Option, Some, None, refl, sym, ap, subst, ◌∙◌, arith, inl, inr, bytes_eq, codes}
+use Rattle.std.specs.Prelude.{if◌then◌else◌, is_some, not}
 use Rattle.cub_proto.specs.declared.protocol.Protocol.{Protocol}
 use Rattle.cub_proto.specs.declared.budget.Budget.{Budget}
-use Rattle.log_form.specs.declared.event.Mark.{Mark}
 use Rattle.log_form.specs.declared.event.Added.{Added}
 use Rattle.log_form.specs.declared.event.LogEvent.{LogEvent}
 use Rattle.log_form.specs.Pieces.{PieceRelation}
@@ -11,14 +10,15 @@ use Rattle.log_form.specs.Log.{LogValue, no_log}
 use Rattle.log_form.specs.Legal.{Leads, IsLegalLog}
 use Rattle.log_form.proofs.Prefixes.{legal_more, legal_first}
 use Rattle.log_form.proofs.Weave.{legal_woven}
-use Rattle.cube_core.specs.Admits.{IsIllegal}
+use Rattle.cube_core.specs.Admits.{IsIllegal, NamesFault}
+use Rattle.cube_core.specs.declared.fault.AdmitFault.{AdmitFault}
 use Rattle.text_lines.specs.Line.{line_at}
 use Rattle.text_lines.specs.Number.{counted}
 use Rattle.journal_text.specs.Text.{full_text}
 use Rattle.journal_text.specs.Told.{word_told, node_told}
 use Rattle.journal_text.specs.Items.{IsNode}
 use Rattle.journal_text.specs.Ready.{HasNoRoots, IsFilled, FillsBy}
-use Rattle.journal_text.specs.Place.{full_event, Makes, TakesFull}
+use Rattle.journal_text.specs.Place.{full_event, TakesFull, Closes}
 use Rattle.journal_text.proofs.Steps.{same_line}
 use Rattle.journal_text.proofs.Refused.{full_same, full_mark, full_needs}
 use Rattle.journal_text.proofs.Takes.{full_node}
@@ -96,3 +96,40 @@ told_small line = by (bytes_eq (word_told 1 line) (codes "roots"))
     by : (b : Bool) → IsNode (if b then None else Some (counted (word_told 1 line)))
     by true = tt
     by false = omega arith
+
+-- an event that was refused for a reason is illegal
+pub named_illegal : (P : PieceRelation) (log : LogValue) (event : LogEvent) (fault : AdmitFault) (added : Option ℕ) → fault ≡ AdmitFault.Not added → NamesFault P log event fault → IsIllegal P log event
+named_illegal P log event fault None is named = (subst (NamesFault P log event) is named).0
+named_illegal P log event fault (Some k) is named = (subst (NamesFault P log event) is named).0
+
+pub refused_by : (P : PieceRelation) (log : LogValue) (told : Option ℕ) (added : List Added) (needed : ℕ) (fault : AdmitFault) (which : Option ℕ) → fault ≡ AdmitFault.Not which → added ≡ []
+    → NamesFault P log (record { node = told; added = added; needed = needed }) fault → (full : Bool) (node : Option ℕ) (last : LogValue) (line : List ℕ) → told ≡ node
+    → TakesFull P full log node needed last line → ⊥
+refused_by P log told added needed fault which is none named full node last line same t =
+    named_illegal P log (record { node = told; added = added; needed = needed }) fault which is named last
+    (subst (λ (xs : List Added). Leads P log (record { node = told; added = xs; needed = needed }) last) (sym none)
+    (subst (λ (o : Option ℕ). Leads P log (record { node = o; added = []; needed = needed }) last) (sym same) t.makes.leads))
+
+-- the test of what a line tells, for the roots and for a node
+pub no_roots_told : (P : PieceRelation) (full : Bool) (p : Protocol) (budget : Budget) (line : List ℕ) (told : Option ℕ) (much : ℕ) (b : Bool) → b ≡ is_some told
+    → (b ≡ true) ⊎ ((b ≡ false) × (much ≡ 0)) → told ≡ None → (last : LogValue) → TakesFull P full (no_log p budget) None much last line → ⊥
+no_roots_told P full p budget line (Some n) much b is some none last t = absurd cc
+no_roots_told P full p budget line None much b is (inl some) none last t = let wrong = sym is ∙ some in absurd cc
+no_roots_told P full p budget line None much b is (inr (empty, zero)) none last t = full_needs P full (no_log p budget) None much last line (omega arith) t zero
+
+pub no_node_told : (P : PieceRelation) (full : Bool) (log : LogValue) (line : List ℕ) (told : Option ℕ) (much : ℕ) (b : Bool) → is_some told ≡ not b
+    → (b ≡ true) ⊎ ((b ≡ false) × (much ≡ 0)) → IsLegalLog P log → (node : ℕ) → told ≡ Some node → (last : LogValue) → TakesFull P full log (Some node) much last line → ⊥
+no_node_told P full log line None much b is some legal node its last t = absurd cc
+no_node_told P full log line (Some n) much b is (inl none) legal node its last t = let wrong = is ∙ ap not none in absurd cc
+no_node_told P full log line (Some n) much b is (inr (some, zero)) legal node its last t = fills_none P full log (Some node) much last line legal zero t
+
+pub fills_told : (P : PieceRelation) (log : LogValue) (line : List ℕ) (told : Option ℕ) (added : List Added) (needed : ℕ) (last : LogValue) → IsLegalLog P log → line ≡ full_text told needed
+    → (b : Bool) → is_some told ≡ not b → b ≡ false → (needed ≡ 0 → ⊥) → needed < 2 ^ 64 → added ≡ [] → Leads P log (record { node = told; added = added; needed = needed }) last → FillsBy P true log line last
+fills_told P log line None added needed last legal text b is no_match some early none leads = let wrong = is ∙ ap not no_match in absurd cc
+fills_told P log line (Some n) added needed last legal text b is no_match some early none leads =
+    fills P log line n needed last legal text some early (subst (λ (xs : List Added). Leads P log (record { node = Some n; added = xs; needed = needed }) last) none leads)
+
+-- with the heading of a full log only a node that fills it closes it
+pub closes_full : (P : PieceRelation) (full : Bool) (log : LogValue) (line : List ℕ) → full ≡ true → ((last : LogValue) → FillsBy P true log line last → ⊥) → (last : LogValue) → Closes P full log line last → ⊥
+closes_full P full log line is none last (inl k) = none last (subst (λ (b : Bool). FillsBy P b log line last) is k)
+closes_full P full log line is none last (inr (wide, same)) = let wrong = sym is ∙ wide.heading in absurd cc

@@ -1,5 +1,5 @@
 -- Readings behind whole events: where they go on, and where they stop.
-use Rattle.std.proofs.Common.{◌≡◌, ◌⊎◌, ℕ, ◌+◌, ◌^◌, ◌<◌, ◌≤◌, Bool, true, false, nat_lt, List, [], ◌∷◌, length, Option, Some, None, refl, sym, ap, subst, ◌∙◌, arith, inl, inr}
+use Rattle.std.proofs.Common.{◌≡◌, ℕ, ◌+◌, ◌^◌, ◌<◌, ◌≤◌, Bool, true, false, nat_lt, List, [], ◌∷◌, length, Option, Some, None, refl, sym, ap, subst, ◌∙◌, arith, inl, inr}
 use Rattle.std.proofs.lemmas.Bool.{ltb-true, ltb-false}
 use Rattle.cub_proto.specs.declared.protocol.Protocol.{Protocol}
 use Rattle.cub_proto.specs.declared.budget.Budget.{Budget}
@@ -7,11 +7,10 @@ use Rattle.log_form.specs.declared.event.Added.{Added}
 use Rattle.log_form.specs.declared.event.Mark.{Mark}
 use Rattle.log_form.specs.declared.numbered.Numbered.{Numbered}
 use Rattle.log_form.specs.Pieces.{PieceRelation, AreOne}
-use Rattle.log_form.specs.Log.{LogValue, no_log, cubes_of}
-use Rattle.log_form.specs.Legal.{Treats, Leads, IsLegalLog}
+use Rattle.log_form.specs.Log.{LogValue, no_log}
+use Rattle.log_form.specs.Legal.{Treats, Leads}
 use Rattle.log_form.proofs.Weave.{legal_woven}
 use Rattle.log_form.proofs.Prefixes.{legal_more, legal_first}
-use Rattle.log_steps.specs.Admitted.{AddsSome}
 use Rattle.cube_core.specs.Admits.{IsIllegal, RefusesAll, RefusesItem}
 use Rattle.text_lines.specs.Line.{line_at}
 use Rattle.journal_text.specs.declared.look.Look.{Look}
@@ -21,9 +20,9 @@ use Rattle.journal_text.specs.declared.fault.JournalFault.TheVariants as faults
 use Rattle.journal_text.specs.Text.{expand_text}
 use Rattle.journal_text.specs.Form.{look_of, look_cut}
 use Rattle.cube_text.specs.Form.{is_empty}
-use Rattle.journal_text.specs.Items.{IsItemLine, AreItemLines, IsNoItem}
-use Rattle.journal_text.specs.Ready.{HasNoRoots, IsReady, KeepsReady, FailsReady, IsClosed, IsNoClosing, IsFilled, whole_kind, is_nothing, lacking_kind}
-use Rattle.journal_text.specs.Place.{Place, Adding, Ending, event_of, Makes, TakesExpand, Closes, takes, GoesOn, IsLookKind, StopsAt, IsFaultOf, IsAt}
+use Rattle.journal_text.specs.Items.{AreItemLines, IsNoItem}
+use Rattle.journal_text.specs.Ready.{HasNoRoots, IsReady, IsClosed, IsNoClosing, IsFilled, whole_kind, is_nothing, lacking_kind}
+use Rattle.journal_text.specs.Place.{Place, Adding, Ending, event_of, TakesExpand, Closes, GoesOn, IsLookKind, StopsAt, IsFaultOf, IsAt}
 use Rattle.journal_text.proofs.Steps.{same_line, goes_on, goes_through, stuck_here, bad_line, stops_from}
 use Rattle.journal_text.proofs.FormLaws.{item_look}
 use Rattle.journal_text.proofs.Apart.{expand_no_full, expand_no_wide, same_expand, node_number}
@@ -207,3 +206,11 @@ module _ (P : PieceRelation) (p : Protocol) where
         fault_at (Adding full (no_log p budget) None []) 4 text f 4 4 (early (omega arith))
         (bad_line P p (Adding full (no_log p budget) None []) 4 text refl 4 (subst (λ (l : Look). IsLookKind P (no_log p budget) None [] l 4) (sym here) refl) bytes left there
         (item_stops P p full (no_log p budget) None [] a bytes refl t (λ list treats adds room. no_lists (a ∷ items) refuses list treats)))
+
+-- what is said of the number that was counted holds of the number of the cubes
+pub counted_early : (count many : ℕ) → count ≡ many → (k : ℕ) (f : JournalFault) (line : ℕ) → (k < count → IsAt f (line + k) 4) → k < many → IsAt f (line + k) 4
+counted_early count many same k f line early = subst (λ (n : ℕ). k < n → IsAt f (line + k) 4) same early
+
+pub counted_late : (count many : ℕ) → count ≡ many → (node : Option ℕ) (k : ℕ) (f : JournalFault) (line : ℕ) (look : Look)
+    → (count ≤ k → IsAt f (line + count) (lacking_kind (is_nothing node count) look)) → many ≤ k → IsAt f (line + many) (lacking_kind (is_nothing node many) look)
+counted_late count many same node k f line look late = subst (λ (n : ℕ). n ≤ k → IsAt f (line + n) (lacking_kind (is_nothing node n) look)) same late

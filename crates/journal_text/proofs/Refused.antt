@@ -1,5 +1,5 @@
 -- A line that is not written from what it tells is written from nothing; and lines of full logs.
-use Rattle.std.proofs.Common.{◌≡◌, ◌≢◌, ◌⊎◌, ℕ, ◌+◌, ◌^◌, ◌<◌, ◌≤◌, Bool, true, false, nat_lt, List, [], ◌∷◌, ◌++◌, length, Option, Some, None, Ok, refl, sym, ap, subst, ◌∙◌, arith, inl, inr, bytes_eq}
+use Rattle.std.proofs.Common.{◌≡◌, ◌⊎◌, ℕ, ◌^◌, ◌<◌, ◌≤◌, Bool, true, false, nat_lt, List, length, Option, Ok, sym, ap, ◌∙◌, arith, inl, inr, bytes_eq}
 use Rattle.std.specs.List.{list_all}
 use Rattle.cub_proto.specs.declared.protocol.Protocol.{Protocol}
 use Rattle.cub_proto.specs.declared.budget.Budget.{Budget}
@@ -7,16 +7,16 @@ use Rattle.cub_cube.specs.declared.cube.Cube.{Cube}
 use Rattle.log_form.specs.declared.event.Mark.{Mark}
 use Rattle.log_form.specs.declared.event.Added.{Added}
 use Rattle.log_form.specs.Pieces.{PieceRelation}
-use Rattle.log_form.specs.Log.{LogValue, no_log}
-use Rattle.log_form.specs.Legal.{Fills, Grows, Leads, IsLegalLog}
+use Rattle.log_form.specs.Log.{LogValue}
+use Rattle.log_form.specs.Legal.{Fills, Grows, Leads}
 use Rattle.text_lines.specs.Number.{counted}
-use Rattle.text_lines.proofs.NumberLaws.{same_bytes, bytes_same}
+use Rattle.text_lines.proofs.NumberLaws.{same_bytes}
 use Rattle.cube_text.specs.Reading.{reading}
 use Rattle.journal_text.specs.Text.{budget_text, item_text, expand_text, full_text}
 use Rattle.journal_text.specs.Told.{word_told, number_told, node_told, item_told}
 use Rattle.journal_text.specs.Form.{widest, cube_part}
 use Rattle.journal_text.specs.Items.{IsItemLine, IsNode}
-use Rattle.journal_text.specs.Place.{full_event, Makes, TakesFull}
+use Rattle.journal_text.specs.Place.{full_event, TakesFull}
 use Rattle.journal_text.proofs.BudgetLaws.{same_numbers}
 use Rattle.journal_text.proofs.ToldLaws.{cubes_told, width_told, expand_is_told, needed_is_told, node_is_told}
 use Rattle.journal_text.proofs.ItemLaws.{told_same}

@@ -1,5 +1,5 @@
 -- The state of a reading behind a whole event, and what a fault there is.
-use Rattle.std.specs.Prelude.{◌≡◌, ℕ, ◌+◌, Bool, false, ◌==◌, if◌then◌else◌, List, Option, Some, None}
+use Rattle.std.specs.Prelude.{◌≡◌, ℕ, Bool, false, ◌==◌, if◌then◌else◌, List, Option, Some, None}
 use Rattle.cub_proto.specs.declared.protocol.Protocol.{Protocol}
 use Rattle.log_form.specs.declared.event.Added.{Added}
 use Rattle.log_form.specs.Pieces.{PieceRelation}

@@ -1,4 +1,4 @@
-//! Journals: the text of a log whose verdict is UNKNOWN, written, and the readers of their lines.
+//! Journals: the text of a log whose verdict is UNKNOWN, written, and read exactly.
 #![tactic(auto)]
 
 // Why a text is refused.
@@ -11,27 +11,25 @@ mod writer;
 
 pub use writer::write;
 
-// What the next line of a text is, and the fault of a text that stops there.
+// What the next line of a text is, for the kind of a fault.
 mod form;
 mod kinds;
 mod look;
 
-pub use kinds::{event_fault, whole_fault};
 pub use look::Look;
 
-// Reading the single lines.
+// Reading: numbers, what a line tells, the single lines, the added cubes of an event.
+mod items;
 mod lines;
 mod numbers;
 mod told;
 
-pub use lines::{Needs, budget_of, expand_of, full_of, heading_of, is_wide, item_of};
-
-// Reading from place to place: the first three lines, the added cubes of an event, the end.
+// Line by line.
+mod closing;
 mod head;
-mod items;
+mod reader;
 
-pub use head::{Cut, next_line, read_budget, read_end, read_heading, read_version};
-pub use items::read_items;
+pub use reader::read;
 
 // Laws of the texts.
 mod laws;

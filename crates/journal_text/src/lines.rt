@@ -161,6 +161,7 @@ fn expand_is_written(alloc: Global, node: u32, line: &[u8]) -> Result<bool, Allo
 /// The node whose expansion the line begins.
 pub fn expand_of(alloc: Global, line: &[u8]) -> Result<Option<u32>, JournalFault>
     ensures found { IfOk result (λ o. IfSome o (λ n. line.now ≡ expand_text n)) }
+    ensures small { IfOk result (λ o. IfSome o (λ n. n < 2 ^ 32)) }
     ensures none { IfOk result (λ o. IfNone o ((n : ℕ) → n < 2 ^ 32 → line.now ≡ expand_text n → ⊥)) }
     ensures err { IfErr result (λ f. f ≡ Memory) }
 {

@@ -1,7 +1,7 @@
 use Rattle.std.proofs.Common.{◌+◌, Ok, codes, refl, sym, ◌∙◌}
 use Rattle.std.proofs.lemmas.Result.{err_from_is_err_and}
 use Rattle.text_lines.proofs.NumberLaws.{bytes_same}
-use Rattle.journal_text.specs.Place.{Ending, Done, GoesOn}
+use Rattle.journal_text.specs.Place.{Ending, Done}
 use Rattle.journal_text.proofs.Refused.{differs}
 use Rattle.journal_text.proofs.Steps.{goes_on, no_line, bad_line, fault_from}
 use Rattle.journal_text.proofs.head.read_end.Goals as goal

@@ -1,4 +1,4 @@
-use Rattle.std.proofs.Common.{◌≡◌, ℕ, List, subst, refl}
+use Rattle.std.proofs.Common.{ℕ, List, subst, refl}
 use Rattle.journal_text.specs.Items.{IsItemLine}
 use Rattle.journal_text.proofs.Steps.{same_line}
 use Rattle.journal_text.proofs.items.next_item.Goals as goal

@@ -1,6 +1,4 @@
-use Rattle.std.proofs.Common.{◌≡◌, sym, ◌∙◌, subst}
-use Rattle.journal_text.specs.Items.{IsNode}
-use Rattle.journal_text.proofs.FullLaws.{told_small}
+use Rattle.std.proofs.Common.{sym, ◌∙◌}
 use Rattle.journal_text.proofs.Refused.{no_full_written}
 use Rattle.journal_text.proofs.lines.full_of.Goals as goal
 
