@@ -13,10 +13,14 @@ Each FILE is measured as a protocol of its own. A protocol is checked with `--cu
 the budget suffices. A line tells the processor seconds, the greatest memory in MiB, the verdict, the size (the cubes of the
 certificate, the steps of the trace, or the nodes of the journal), and the seconds and the memory as multiples of those of
 the line before: of the smaller budget, or where a size begins, of the size before. `--small` measures small sizes only.
+
+Behind a line of the family `sample` the covering tests of that search are told, where the program `figures` of crates/figures
+was built.
 """
 
 import argparse
 import os
+import subprocess
 import sys
 import tempfile
 
@@ -91,6 +95,16 @@ def measure(given, name, path, before):
     return done
 
 
+FIGURES = os.path.join(os.path.dirname(HERE), "crates", "figures", "out", "figures")
+
+
+def tell_tests(levels):
+    """Tells the covering tests of the search of the sample protocol, where the program that counts them is there."""
+    if os.path.exists(FIGURES):
+        told = subprocess.run([FIGURES, "tests", str(levels), "1"], capture_output=True, text=True).stdout.split()
+        print("%-24s %s covering tests" % ("", told[-1] if told else "no"), flush=True)
+
+
 def measure_family(given, folder, family, sizes):
     """Measures the protocols of one family."""
     done = None
@@ -99,6 +113,8 @@ def measure_family(given, folder, family, sizes):
         with open(path, "w", encoding="ascii") as file:
             file.write("\n".join(FAMILIES[family](size)) + "\n")
         done = measure(given, "%s %d" % (family, size), path, done)
+        if family == "sample":
+            tell_tests(size)
 
 
 def main():

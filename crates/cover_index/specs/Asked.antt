@@ -1,5 +1,5 @@
 -- What searches know: of the cube that is asked about, and of the cubes that are searched.
-use Rattle.std.specs.Prelude.{◌≡◌, ℕ, ◌<◌, ◌≤◌, ◌/◌, Bool, List, length, slice_index_or, All, IsTrue}
+use Rattle.std.specs.Prelude.{◌≡◌, ℕ, ◌<◌, ◌≤◌, ◌/◌, Bool, List, length, slice_index_or, All, IsTrue, bit_or}
 use Rattle.cub_proto.specs.declared.protocol.Protocol.{Protocol}
 use Rattle.cub_cube.specs.declared.cube.Cube.{Cube}
 use Rattle.cub_cube.specs.Meaning.{IsConsistent}
@@ -55,10 +55,10 @@ pub record AreKept (old new : List Summary) : Type 0 where
 abbrev pub Joins : Summary → Summary → Type 0
 Joins own summary = (p : Protocol) (c : Cube) → IsOf p c own → IsOf p c summary
 
--- the words of a summary that are kept apart, for tests that read little: memberships in one constructor that its cubes need,
--- and that they offer
+-- the words of a summary that are kept apart, for tests that read little: memberships in one constructor and values of
+-- integer terms, those that its cubes need and those that they offer
 abbrev pub needs_key : Summary → ℕ
-needs_key s = s.needs.constructors
+needs_key s = bit_or s.needs.constructors s.needs.values
 
 abbrev pub offers_key : Summary → ℕ
-offers_key s = s.offers.constructors
+offers_key s = bit_or s.offers.constructors s.offers.values

@@ -9,7 +9,7 @@ ghost use Rattle.cover_index.specs.Counted.{RisesIf, RisesForCovers};
 ghost use Rattle.cover_index.specs.Asked.{IsAsked, AreSummedTo};
 
 use crate::candidates::{covers_asked, keys_pass};
-use crate::summaries::Summaries;
+use crate::summaries::{Summaries, offers_key};
 use cub_base::Places;
 use cub_cube::Cube;
 use cub_proto::Protocol;
@@ -36,7 +36,7 @@ pub(crate) fn first_among(
 {
     let all = summaries.as_slice();
     let needs = summaries.needs();
-    let offered = own.offers.constructors;
+    let offered = offers_key(own);
     for i in from..upto {
         if keys_pass(consistent, needs[i as usize], offered) {
             continue;
@@ -104,7 +104,7 @@ pub(crate) fn some_among(
 {
     let all = summaries.as_slice();
     let needs = summaries.needs();
-    let offered = own.offers.constructors;
+    let offered = offers_key(own);
     for i in from..upto {
         if keys_pass(consistent, needs[i as usize], offered) {
             continue;

@@ -10,7 +10,7 @@ ghost use Rattle.cover_index.specs.Counted.{RisesForUnder};
 ghost use Rattle.cover_index.specs.Asked.{AreSummedTo, AreMet};
 
 use crate::candidates::{covers_listed, keys_pass};
-use crate::summaries::Summaries;
+use crate::summaries::{Summaries, needs_key};
 use cub_base::Places;
 use cub_cube::Cube;
 use cub_proto::Protocol;
@@ -62,7 +62,7 @@ pub(crate) fn first_among(
 {
     let all = summaries.as_slice();
     let offers = summaries.offers();
-    let needed = own.needs.constructors;
+    let needed = needs_key(own);
     for i in from..upto {
         if keys_pass(i < met, needed, offers[i as usize]) {
             continue;

@@ -1,5 +1,6 @@
 //! The summaries of a list of cubes. One word of each is kept apart too, side by side with those of the others: most pairs
-//! of cubes are told apart by the memberships in one constructor, and a walk over many cubes then reads little.
+//! of cubes are told apart by the memberships in one constructor or by the values of integer terms, and a walk over many
+//! cubes then reads little.
 
 ghost use Rattle.std.specs.Prelude.{◌≡◌, ◌∷◌, ◌++◌, [], map, take, OnOk, OnErr};
 ghost use Rattle.subsume.specs.declared.summary.Summary.{Summary};
@@ -30,6 +31,20 @@ impl Model for Summaries {
     ghost invariant = { λ s. (s.needs.items ≡ map needs_key s.all.items) × (s.offers.items ≡ map offers_key s.all.items) };
 }
 
+/// The word of what the cubes need that is kept apart.
+pub(crate) fn needs_key(summary: &Summary) -> u64
+    ensures { result ≡ needs_key summary.now }
+{
+    summary.needs.constructors | summary.needs.values
+}
+
+/// The word of what they offer.
+pub(crate) fn offers_key(summary: &Summary) -> u64
+    ensures { result ≡ offers_key summary.now }
+{
+    summary.offers.constructors | summary.offers.values
+}
+
 // Appends an item to each list, or to none.
 fn push_all(
     all: &mut Vec<Summary>,
@@ -38,8 +53,8 @@ fn push_all(
     own: &Summary,
 ) -> Result<(), Memory>
     ensures all_ok { OnOk result (all.new.items ≡ all.old.items ++ own.now ∷ []) }
-    ensures needs_ok { OnOk result (needs.new.items ≡ needs.old.items ++ own.now.needs.constructors ∷ []) }
-    ensures offers_ok { OnOk result (offers.new.items ≡ offers.old.items ++ own.now.offers.constructors ∷ []) }
+    ensures needs_ok { OnOk result (needs.new.items ≡ needs.old.items ++ needs_key own.now ∷ []) }
+    ensures offers_ok { OnOk result (offers.new.items ≡ offers.old.items ++ offers_key own.now ∷ []) }
     ensures all_err { OnErr result (all.new.items ≡ all.old.items) }
     ensures needs_err { OnErr result (needs.new.items ≡ needs.old.items) }
     ensures offers_err { OnErr result (offers.new.items ≡ offers.old.items) }
@@ -50,14 +65,14 @@ fn push_all(
         Ok(()) => {}
         Err(_) => return Err(Memory),
     }
-    match needs.push(own.needs.constructors) {
+    match needs.push(needs_key(own)) {
         Ok(()) => {}
         Err(_) => {
             all.truncate(all_count);
             return Err(Memory);
         }
     }
-    match offers.push(own.offers.constructors) {
+    match offers.push(offers_key(own)) {
         Ok(()) => Ok(()),
         Err(_) => {
             all.truncate(all_count);

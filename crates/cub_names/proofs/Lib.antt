@@ -5,3 +5,6 @@ pub mod Empty
 pub mod StandsFits
 pub mod SortsFew
 pub mod FirstFault
+pub mod SidesFit
+pub mod NamesDistinct
+pub mod DeclaredFit

@@ -2,6 +2,8 @@
 
 ghost use Rattle.std.specs.Prelude.{◌≡◌, ◌≤◌, ◌++◌, [], ◌∷◌, length, map, IfOk, OnOk, codes};
 ghost use Rattle.std.specs.List.{flat_map};
+ghost use Rattle.cub_proto.specs.Parts.{AreParts};
+ghost use Rattle.cub_proto.specs.Signature.{signature};
 ghost use Rattle.cub_proto.specs.StateOf.{signature_of};
 ghost use Rattle.cub_names.specs.Words.{word_of};
 ghost use Rattle.cub_names.specs.Declarations.{declared, declared_faults, declared_as, sort_of_node, bool_sort, words_of, types_of, globals_of, arrays_of};
@@ -9,7 +11,7 @@ ghost use Rattle.cub_names.specs.Declarations.{declared, declared_faults, declar
 use crate::lists::{Typed, arrays_of, globals_of};
 use crate::types::{TypeNames, sort_at};
 use crate::words::word;
-use cub_base::{Items, Name};
+use cub_base::{Items, Memory, Name};
 use cub_parse::{DeclNode, Leaf};
 use cub_proto::{Cons, Decl, Decls, NotProtocol, Protocol, Sort, SortDecl, SortDecls};
 use std::alloc::{AllocError, Global};
@@ -76,29 +78,41 @@ fn decls_of(
     Ok(decls)
 }
 
+/// The protocol of declarations that make one.
+fn protocol_of(
+    alloc: Global,
+    sorts: SortDecls,
+    globals: Decls,
+    arrays: Decls,
+) -> Result<Protocol, Memory>
+    requires { AreParts sorts globals arrays [] [] [] }
+    ensures { IfOk result (λ base. signature_of base ≡ signature sorts globals arrays) }
+{
+    let start = Items::new(alloc);
+    let goals = Items::new(alloc);
+    let transitions = Items::new(alloc);
+    match Protocol::try_new(alloc, sorts, globals, arrays, start, goals, transitions) {
+        Ok(base) => Ok(base),
+        Err(NotProtocol::Memory) => Err(Memory),
+        Err(NotProtocol::Unfit) => unreachable!(),
+    }
+}
+
 /// The protocol that the declarations declare, without a start formula, goals and transitions.
 pub fn base_of(
     alloc: Global,
     text: &[u8],
     types: &TypeNames,
     decls: &[DeclNode],
-) -> Result<Protocol, NotProtocol>
+) -> Result<Protocol, Memory>
     requires types { types.now ≡ words_of text.now (types_of decls.now) }
     requires none { declared_faults text.now decls.now ≡ [] }
     ensures { IfOk result (λ base. signature_of base ≡ declared text.now decls.now) }
 {
     let sorts = sorts_of(alloc, text, decls)?;
-    let ds = globals_of(alloc, decls)?;
-    let globals = decls_of(alloc, text, types, ds.as_slice())?;
-    let ds = arrays_of(alloc, decls)?;
-    let arrays = decls_of(alloc, text, types, ds.as_slice())?;
-    Protocol::try_new(
-        alloc,
-        sorts,
-        globals,
-        arrays,
-        Items::new(alloc),
-        Items::new(alloc),
-        Items::new(alloc),
-    )
+    let named = globals_of(alloc, decls)?;
+    let globals = decls_of(alloc, text, types, named.as_slice())?;
+    let celled = arrays_of(alloc, decls)?;
+    let arrays = decls_of(alloc, text, types, celled.as_slice())?;
+    protocol_of(alloc, sorts, globals, arrays)
 }

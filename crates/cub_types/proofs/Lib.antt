@@ -6,6 +6,16 @@ pub mod Told
 pub mod SidesTold
 pub mod FormFolds
 pub mod FormsTold
+pub mod FormulasFit
+pub mod GuardsFit
+pub mod BodiesFit
+pub mod StartFits
+pub mod UpdatesFit
+pub mod JoinedFit
+pub mod TargetsFit
+pub mod TransitionsFit
+pub mod WholeFits
+pub mod AllTyped
 pub mod RestTold
 pub mod OneReading
 pub mod Resolved

@@ -4,4 +4,5 @@ pub mod Bodies
 pub mod Writes
 pub mod Joined
 pub mod Typing
+pub mod Typed
 pub mod Laws

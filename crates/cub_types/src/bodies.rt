@@ -7,11 +7,12 @@ ghost use Rattle.cub_dnf.specs.Lists.{list_of};
 ghost use Rattle.cub_dnf.specs.Normal.{IsNormal};
 ghost use Rattle.cub_names.specs.declared.fault.TypeKind.TheVariants as t;
 ghost use Rattle.cub_names.specs.Checked.{first_of_all, appended, fault};
+ghost use Rattle.cub_types.specs.Typed.{IsTyped};
 ghost use Rattle.cub_types.specs.Bodies.{normalized, body_form, start_tests, start, turned, goal_form, goal, counted, goal_tests, length_of, goals_of, total_behind, goals_at, total_at, goals_from};
 
 use crate::formulas::typed_form;
 use cub_base::{Boxed, Items, Memory};
-use cub_dnf::{DnfFault, Formula, count, fits, normal};
+use cub_dnf::{DnfFault, Formula, count, normal};
 use cub_names::{Fault, Local, Names, TypeKind, front, locals, tell, variable_faults};
 use cub_parse::{BodyNode, FormNode, RestNode};
 use cub_proto::{Conjs, Goal, Goals, Lits};
@@ -19,13 +20,10 @@ use std::alloc::{AllocError, Global};
 
 /// The normal form. The width is one above all places of the formula.
 fn normal_list(names: &Names, width: u16, formula: &Formula) -> Result<Conjs, DnfFault>
+    requires { IsTyped names.now.sig width formula.now }
     ensures { IsNormal result (list_of names.now.sig true formula.now) }
 {
-    let base = names.base();
-    if !fits(&base.declared(), width, formula) {
-        return Err(DnfFault::Memory);
-    }
-    normal(base, width, formula)
+    normal(names.base(), width, formula)
 }
 
 /// The normal form, tested against its limits.
@@ -36,6 +34,7 @@ pub fn normalized(
     token: u32,
     formula: &Formula,
 ) -> Result<Option<Conjs>, Memory>
+    requires { IsTyped names.now.sig width formula.now }
     ensures value { IfOk result (λ list. list ≡ (normalized names.now.sig token formula.now).value) }
     ensures first { OnOk result (first.new ≡ first_of_all first.old (normalized names.now.sig token formula.now).faults) }
 {
@@ -93,6 +92,7 @@ fn start_tests(
     token: u32,
     formula: &Formula,
 ) -> Result<Option<Conjs>, Memory>
+    requires { IsTyped names.now.sig 1 formula.now }
     ensures value { IfOk result (λ list. list ≡ (start_tests names.now.sig token formula.now).value) }
     ensures first { OnOk result (first.new ≡ first_of_all first.old (start_tests names.now.sig token formula.now).faults) }
 {
@@ -101,6 +101,7 @@ fn start_tests(
 }
 
 /// The start formula.
+#[tactic(auto, using(crate::proofs::AllTyped::start_is_typed))]
 pub fn start(
     alloc: Global,
     names: &Names,
@@ -184,6 +185,7 @@ fn goal_tests(
     total: u32,
     formula: &Formula,
 ) -> Result<Option<Goals>, Memory>
+    requires { IsTyped names.now.sig width formula.now }
     ensures value { IfOk result (λ goals. goals ≡ (goal_tests names.now.sig width token total formula.now).value) }
     ensures first { OnOk result (first.new ≡ first_of_all first.old (goal_tests names.now.sig width token total formula.now).faults) }
 {
@@ -215,6 +217,7 @@ fn no_goals(total: u32) -> Counted
     Counted { goals: None, total }
 }
 
+#[tactic(auto, using(crate::proofs::AllTyped::goal_is_typed))]
 fn goals_of(
     alloc: Global,
     names: &Names,

@@ -31,7 +31,10 @@ pub use reading::resolve;
 // Laws.
 mod laws;
 
-pub use laws::{kept_fault_is_first, no_fault, nothing_is_lost, one_fault, one_protocol};
+pub use laws::{
+    a_protocol_or_a_fault, kept_fault_is_first, no_fault, no_fault_is_a_protocol, nothing_is_lost,
+    one_fault, one_protocol,
+};
 
 // Examples.
 mod rows;

@@ -2,6 +2,7 @@
 //! first of its faults, or the protocol.
 
 ghost use Rattle.std.specs.Prelude.{◌≡◌, ◌++◌, [], Some, None, IfOk, IfErr, OnOk, Err};
+ghost use Rattle.cub_proto.specs.Parts.{AreParts};
 ghost use Rattle.cub_names.specs.Checked.{first_of_all, fault};
 ghost use Rattle.cub_types.specs.Typing.{rest_of, typed_rest, rest_typed, faults_of, Reads, IsResolved, IsRested, IsBuilt, IsKnown};
 
@@ -10,7 +11,7 @@ use crate::transitions::{all_transitions, name_faults};
 use cub_base::Memory;
 use cub_names::{Fault, Names, TypeFault, names_of};
 use cub_parse::{BodyNode, RestNode, Syntax};
-use cub_proto::{Conjs, Goals, Protocol, Transitions};
+use cub_proto::{Conjs, Goals, NotProtocol, Protocol, Transitions};
 use std::alloc::Global;
 
 /// What stands behind the declarations.
@@ -81,6 +82,7 @@ fn judged_rest(
 
 /// The protocol of its parts.
 fn built(alloc: Global, base: Protocol, rest: Rest) -> Result<Protocol, TypeFault>
+    requires { AreParts base.sorts base.globals base.arrays rest.start rest.goals rest.transitions }
     ensures { IsBuilt result base rest }
 {
     let Protocol {
@@ -96,10 +98,12 @@ fn built(alloc: Global, base: Protocol, rest: Rest) -> Result<Protocol, TypeFaul
     } = rest;
     match Protocol::try_new(alloc, sorts, globals, arrays, start, goals, transitions) {
         Ok(protocol) => Ok(protocol),
-        Err(_) => Err(TypeFault::Memory),
+        Err(NotProtocol::Memory) => Err(TypeFault::Memory),
+        Err(NotProtocol::Unfit) => unreachable!(),
     }
 }
 
+#[tactic(auto, using(crate::proofs::WholeFits::parts_of_base))]
 fn resolved(alloc: Global, names: Names, tree: &Syntax) -> Result<Protocol, TypeFault>
     ensures { IsKnown result names.entry tree.now }
 {

@@ -1,10 +1,11 @@
 //! Typing of one update: its target, the variable that its index introduces, its conditions and its values.
 
-ghost use Rattle.std.specs.Prelude.{true, false, ◌≡◌, ◌+◌, ◌≤◌, ◌<◌, ◌++◌, ◌∷◌, [], length, map, take, drop, max, nat_lt, Some, None, IfOk, OnOk, option_map, if◌then◌else◌};
+ghost use Rattle.std.specs.Prelude.{true, false, ◌≡◌, ◌+◌, ◌≤◌, ◌<◌, ◌++◌, ◌∷◌, [], length, map, take, drop, max, nat_lt, Some, None, IfOk, OnOk, IsTrue, option_map, if◌then◌else◌};
 ghost use Rattle.cub_dnf.specs.Normal.{widest};
 ghost use Rattle.cub_names.specs.Checked.{first_of_all};
 ghost use Rattle.cub_names.specs.Sides.{place_at, what_at};
 ghost use Rattle.cub_types.specs.Guards.{local};
+ghost use Rattle.cub_names.specs.Scope.{scope_fits};
 ghost use Rattle.cub_types.specs.Writes.{array_aim, aim_of, target_of, sort_of_aim, sort_aimed, added, value_of_side, value_for, any_faults, right_value, cond_tests, condition, case_of, case_faults, all_case_faults, index_place, inner_scope, index_faults, mark_of, mark_before, first_mark, aim_at, inner, written, written_faults};
 
 use crate::bodies::normalized;
@@ -179,6 +180,7 @@ fn cond_tests(first: &mut Option<Fault>, token: u32, more: usize, list: Conjs) -
     Some(list)
 }
 
+#[tactic(auto, using(crate::proofs::AllTyped::form_is_typed))]
 fn condition(
     alloc: Global,
     names: &Names,
@@ -188,7 +190,8 @@ fn condition(
     more: usize,
     node: &CaseNode,
 ) -> Result<Option<Conjs>, Memory>
-    requires { more ≤ 1 }
+    requires more { more ≤ 1 }
+    requires scope { IsTrue (scope_fits width scope.now) }
     ensures value { IfOk result (λ list. list ≡ (condition names.now scope.now more node.now).value) }
     ensures first { OnOk result (first.new ≡ first_of_all first.old (condition names.now scope.now more node.now).faults) }
 {
@@ -212,6 +215,7 @@ fn case_of(
     aim: Option<Aim>,
     node: &CaseNode,
 ) -> Result<Case, Memory>
+    requires { IsTrue (scope_fits width scope.now) }
     ensures value { IfOk result (λ found. found ≡ case_of names.now scope.now aim node.now) }
     ensures first { OnOk result (first.new ≡ first_of_all first.old (case_faults names.now scope.now aim node.now)) }
 {
@@ -237,6 +241,7 @@ fn cases_of(
     aim: Option<Aim>,
     nodes: &[CaseNode],
 ) -> Result<Cases, Memory>
+    requires { IsTrue (scope_fits width scope.now) }
     ensures value { IfOk result (λ cases. cases ≡ map (case_of names.now scope.now aim) nodes.now) }
     ensures first { OnOk result (first.new ≡ first_of_all first.old (all_case_faults names.now scope.now aim nodes.now)) }
 {
@@ -328,6 +333,7 @@ fn aim_at(
 }
 
 /// The update of a node.
+#[tactic(auto, using(crate::proofs::AllTyped::inner_fits))]
 pub fn written(
     alloc: Global,
     names: &Names,
@@ -336,6 +342,7 @@ pub fn written(
     first: &mut Option<Fault>,
     node: &UpdateNode,
 ) -> Result<Written, Memory>
+    requires { IsTrue (scope_fits params scope.now) }
     ensures value { IfOk result (λ w. w ≡ written names.now scope.now params node.now) }
     ensures first { OnOk result (first.new ≡ first_of_all first.old (written_faults names.now scope.now params node.now)) }
 {

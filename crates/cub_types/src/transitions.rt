@@ -1,9 +1,11 @@
 //! Transitions: names, parameters, the guard with its universal guard, and the updates.
 
-ghost use Rattle.std.specs.Prelude.{true, false, ◌≡◌, ◌+◌, ◌≤◌, ◌<◌, ◌++◌, ◌∷◌, [], length, map, flat_map, drop, take, Some, None, IfOk, OnOk, if◌then◌else◌, option_map};
+ghost use Rattle.std.specs.Prelude.{true, false, ◌≡◌, ◌+◌, ◌≤◌, ◌<◌, ◌++◌, ◌∷◌, [], length, map, flat_map, drop, take, Some, None, IfOk, OnOk, IsTrue, if◌then◌else◌, option_map};
 ghost use Rattle.cub_dnf.specs.declared.formula.Formula.TheVariants as f;
 ghost use Rattle.cub_names.specs.declared.scope.Local.{Local};
 ghost use Rattle.cub_names.specs.Checked.{first_of_all, appended, in_front, both};
+ghost use Rattle.cub_names.specs.Scope.{scope_fits};
+ghost use Rattle.cub_types.specs.Typed.{AreTyped};
 ghost use Rattle.cub_types.specs.Guards.{Split, nothing, whole};
 ghost use Rattle.cub_types.specs.Joined.{updates_of, long_faults, targets};
 ghost use Rattle.cub_types.specs.Typing.{conjoined, split_guard, split_lists, no_guard, guard_of, pair_of, transition_from, transition, listed, transition_at, transition_name, transition_name_faults, transitions_of};
@@ -23,6 +25,7 @@ use cub_proto::{Conjs, Transition, Transitions};
 use std::alloc::{AllocError, Global};
 
 /// The normal form of conjuncts together, where all of them are known.
+#[tactic(auto, using(crate::proofs::AllTyped::parts_are_typed))]
 fn conjoined(
     names: &Names,
     width: u16,
@@ -30,6 +33,7 @@ fn conjoined(
     token: u32,
     parts: Option<Formulas>,
 ) -> Result<Option<Conjs>, Memory>
+    requires { AreTyped names.now.sig width parts }
     ensures value { IfOk result (λ list. list ≡ (conjoined names.now.sig token parts).value) }
     ensures first { OnOk result (first.new ≡ first_of_all first.old (conjoined names.now.sig token parts).faults) }
 {
@@ -98,6 +102,8 @@ fn split_lists(
     token: u32,
     parts: Parts,
 ) -> Result<Option<Guard>, Memory>
+    requires own { AreTyped names.now.sig params parts.own }
+    requires others { AreTyped names.now.sig (params + 1) parts.others }
     ensures value { IfOk result (λ g. option_map pair_of g ≡ (both (conjoined names.now.sig token parts.own) (conjoined names.now.sig token parts.others)).value) }
     ensures first { OnOk result (first.new ≡ first_of_all first.old (both (conjoined names.now.sig token parts.own) (conjoined names.now.sig token parts.others)).faults) }
 {
@@ -111,6 +117,7 @@ fn split_lists(
     }
 }
 
+#[tactic(auto, using(crate::proofs::AllTyped::own_are_typed, crate::proofs::AllTyped::others_are_typed))]
 fn guard_of(
     alloc: Global,
     names: &Names,
@@ -119,6 +126,7 @@ fn guard_of(
     first: &mut Option<Fault>,
     guard: &Option<BodyNode>,
 ) -> Result<Option<Guard>, Memory>
+    requires { IsTrue (scope_fits params scope.now) }
     ensures value { IfOk result (λ g. option_map pair_of g ≡ (guard_of names.now params scope.now guard.now).value) }
     ensures first { OnOk result (first.new ≡ first_of_all first.old (guard_of names.now params scope.now guard.now).faults) }
 {

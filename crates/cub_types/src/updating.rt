@@ -1,9 +1,10 @@
 //! The updates of a transition so far. An update that is made twice is left out, so that the list is never longer than
 //! the targets are, and a text with many updates takes no time to speak of.
 
-ghost use Rattle.std.specs.Prelude.{false, ◌≡◌, ◌+◌, ◌<◌, ◌≤◌, ◌++◌, ◌∷◌, [], ◌&&◌, length, not, nat_lt, true, IfOk, OnOk, drop};
+ghost use Rattle.std.specs.Prelude.{false, ◌≡◌, ◌+◌, ◌<◌, ◌≤◌, ◌++◌, ◌∷◌, [], ◌&&◌, length, not, nat_lt, true, IfOk, OnOk, IsTrue, drop};
 ghost use Rattle.std.specs.List.{list_any, list_all};
 ghost use Rattle.cub_names.specs.Checked.{first_of_all};
+ghost use Rattle.cub_names.specs.Scope.{scope_fits};
 ghost use Rattle.cub_types.specs.Writes.{is_whole_case, is_whole, written};
 ghost use Rattle.cub_types.specs.Joined.{clash, clashes, is_again, keeps, again_faults, taker, is_among, takes, taker_faults, taker_of, joined, joined_faults, no_updates, update_faults, updating, updating_faults};
 
@@ -187,6 +188,7 @@ fn with_update(
     u: Updating,
     node: &UpdateNode,
 ) -> Result<Updating, Memory>
+    requires { IsTrue (scope_fits params scope.now) }
     ensures value { IfOk result (λ v. v ≡ joined u (written names.now scope.now params node.now)) }
     ensures first { OnOk result (first.new ≡ first_of_all first.old (update_faults names.now scope.now params u node.now)) }
 {
@@ -204,6 +206,7 @@ pub fn all_updates(
     first: &mut Option<Fault>,
     nodes: &[UpdateNode],
 ) -> Result<Updating, Memory>
+    requires { IsTrue (scope_fits params scope.now) }
     ensures value { IfOk result (λ u. u ≡ updating names.now scope.now params no_updates nodes.now) }
     ensures first { OnOk result (first.new ≡ first_of_all first.old (updating_faults names.now scope.now params no_updates nodes.now)) }
 {

@@ -9,7 +9,7 @@ use crate::drawing::draw_alone;
 use crate::failed::Failed;
 use crate::listing::{Question, search};
 use crate::literals::Kind;
-use crate::searching::{expand, list_pieces};
+use crate::searching::{expand, list_pieces, test_covers};
 use cover_index::Index;
 use std::alloc::Global;
 use subsume::Scan;
@@ -27,10 +27,11 @@ pub enum Measure {
     Index(Question),
     Pieces,
     Expand,
+    Tests,
 }
 
 /// Each measure with its name.
-pub const NAMED: [(&str, Measure); 19] = [
+pub const NAMED: [(&str, Measure); 20] = [
     ("close", Measure::Close),
     ("solve-masks", Measure::Solve(Kind::Masks)),
     ("solve-disequalities", Measure::Solve(Kind::Disequalities)),
@@ -56,6 +57,7 @@ pub const NAMED: [(&str, Measure); 19] = [
     ("under-index", Measure::Index(Question::Under)),
     ("pieces", Measure::Pieces),
     ("expand", Measure::Expand),
+    ("tests", Measure::Tests),
 ];
 
 /// What is measured where no word is given: a name and a size.
@@ -153,5 +155,6 @@ pub fn run(alloc: Global, measure: Measure, size: u32, times: u32) -> Result<u64
         }
         Measure::Pieces => list_pieces(alloc, between(size, 2, 63)?, times),
         Measure::Expand => expand(alloc, between(size, 2, 63)?, times),
+        Measure::Tests => test_covers(alloc, between(size, 2, 63)?, times),
     }
 }

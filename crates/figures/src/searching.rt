@@ -1,11 +1,11 @@
-//! The search on the sample protocol: the pieces of one cube, and whole searches over the plain list.
+//! The search on the sample protocol: the pieces of one cube, and whole searches over the plain list and over the index.
 
-ghost use Rattle.std.specs.Prelude.{◌≤◌, ◌≡◌};
+ghost use Rattle.std.specs.Prelude.{◌≤◌, ◌≡◌, []};
 ghost use Rattle.theory.specs.Made.{IsFor};
 ghost use Rattle.log_form.specs.Log.{cubes_of};
-ghost use Rattle.subsume.specs.Scanned.{IsServing};
 
 use crate::failed::Failed;
+use cover_index::Index;
 use cub_cube::Cube;
 use cub_proto::{Budget, Lit, Protocol, Term};
 use cube_core::{Log, Mark};
@@ -52,16 +52,16 @@ fn next_node(log: &Log<Predecessors>) -> Option<u32> {
 }
 
 // Expands the least waiting node until none waits, or a node for each cube of the greatest budget was.
-fn expand_all(
+fn expand_all<F: Finder<Scratch>>(
     scratch: &mut Scratch,
     protocol: &Protocol,
-    finder: &mut Scan,
+    finder: &mut F,
     log: &mut Log<Predecessors>,
 ) -> Result<(), Failed>
     requires made { IsFor protocol.now scratch.old }
-    requires serves { IsServing protocol.now finder.old }
+    requires serves { F.serves finder.old protocol.now }
     requires protocol { protocol.now ≡ log.old.protocol }
-    requires cubes { finder.old.cubes ≡ cubes_of log.old.nodes }
+    requires cubes { F.list finder.old ≡ cubes_of log.old.nodes }
 {
     for _done in 0..65536u32 {
         let node = match next_node(log) {
@@ -76,20 +76,26 @@ fn expand_all(
     Ok(())
 }
 
-// One whole search; the number of its events and nodes.
-fn search(alloc: Global, protocol: &Protocol) -> Result<u64, Failed> {
+// One whole search over an empty list; the numbers of its events and of its covering tests.
+fn search<F: Finder<Scratch>>(
+    alloc: Global,
+    protocol: &Protocol,
+    finder: &mut F,
+) -> Result<(u64, u64), Failed>
+    requires { F.list finder.old ≡ [] }
+{
     let budget = Budget {
         cubes: 65536,
         width: 8,
     };
     let mut scratch = Scratch::new(alloc, protocol)?;
-    let mut finder = Scan::new(alloc);
-    let mut log = Log::new(alloc, &mut scratch, protocol, &mut finder, budget)?;
-    expand_all(&mut scratch, protocol, &mut finder, &mut log)?;
-    Ok(log.events().len() as u64)
+    let mut log = Log::new(alloc, &mut scratch, protocol, finder, budget)?;
+    expand_all(&mut scratch, protocol, finder, &mut log)?;
+    Ok((log.events().len() as u64, scratch.tests()))
 }
 
-/// Searches the sample protocol anew each time; counts the events, one for each expansion and one for the roots.
+/// Searches the sample protocol anew each time, over the plain list; counts the events, one for each expansion and one for
+/// the roots.
 pub fn expand(alloc: Global, levels: u8, times: u32) -> Result<u64, Failed>
     requires low { 2 ≤ levels }
     requires high { levels ≤ 63 }
@@ -97,7 +103,24 @@ pub fn expand(alloc: Global, levels: u8, times: u32) -> Result<u64, Failed>
     let protocol = sample(alloc, levels)?;
     let mut count = 0u64;
     for _done in 0..times {
-        count = count.wrapping_add(search(alloc, &protocol)?);
+        let mut finder = Scan::new(alloc);
+        let (events, _) = search(alloc, &protocol, &mut finder)?;
+        count = count.wrapping_add(events);
+    }
+    Ok(count)
+}
+
+/// Does so over the index; counts the covering tests.
+pub fn test_covers(alloc: Global, levels: u8, times: u32) -> Result<u64, Failed>
+    requires low { 2 ≤ levels }
+    requires high { levels ≤ 63 }
+{
+    let protocol = sample(alloc, levels)?;
+    let mut count = 0u64;
+    for _done in 0..times {
+        let mut finder = Index::new(alloc);
+        let (_, tests) = search(alloc, &protocol, &mut finder)?;
+        count = count.wrapping_add(tests);
     }
     Ok(count)
 }

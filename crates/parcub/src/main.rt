@@ -9,6 +9,8 @@ mod laws;
 
 // Its parts: the texts of protocols, `check` and `sample`, `print`, `replay`, `verify`.
 mod checks;
+#[cfg(test)]
+mod failing;
 mod files;
 mod prints;
 mod replays;

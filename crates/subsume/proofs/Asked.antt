@@ -173,7 +173,7 @@ below_bound x y z bound e f h = omega (arith, ints)
 zero_bound : (x y bound : ℤ) → x ≡ y → (x -ℤ y) ≤ℤ bound → pos 0 ≤ℤ bound
 zero_bound x y bound e h = omega (arith, ints)
 
-none_at : {A : Type 0} (test : A → Bool) (xs : List A) (k : ℕ) (d : A) → list_any test xs ≡ false → k < length xs → test (get_or xs k d) ≡ false
+pub none_at : {A : Type 0} (test : A → Bool) (xs : List A) (k : ℕ) (d : A) → list_any test xs ≡ false → k < length xs → test (get_or xs k d) ≡ false
 none_at test [] k d h below = absurd (omega arith)
 none_at test (x ∷ xs) zero d h below = (or_parts (test x) (list_any test xs) h).0
 none_at test (x ∷ xs) (suc k) d h below = none_at test xs k d (or_parts (test x) (list_any test xs) h).1 (omega arith)

@@ -7,3 +7,5 @@ pub mod Changed
 pub mod Asked
 pub mod Marked
 pub mod Summarized
+pub mod Found
+pub mod Held

@@ -1,11 +1,11 @@
 -- The marks of a cube that covers one that some state meets are among those that the covered cube offers.
-use Rattle.std.proofs.Common.{◌≡◌, ◌≢◌, ℕ, ◌-◌, ◌<◌, ◌^◌, Bool, true, false, not, List, [], ◌∷◌, ◌++◌, length, map, ℤ, pos, ◌≤ℤ◌, inl, inr, refl, sym, ap, ◌∙◌, subst, arith}
-use Rattle.std.specs.Prelude.{IsTrue, ◌&&◌, ◌||◌, ◌==◌, int_le, Contains, AllPairs, slice_index}
+use Rattle.std.proofs.Common.{◌≡◌, ◌≢◌, ℕ, ◌-◌, ◌<◌, ◌^◌, Bool, true, false, not, List, [], ◌∷◌, ◌++◌, length, map, ℤ, pos, ◌+ℤ◌, ◌≤ℤ◌, inl, inr, refl, sym, ap, ◌∙◌, subst, arith}
+use Rattle.std.specs.Prelude.{IsTrue, ◌&&◌, ◌||◌, ◌==◌, int_le, nat_lt, Contains, AllPairs, slice_index}
 use Rattle.std.specs.List.{list_all, list_any}
-use Rattle.std.specs.Ordering.{is_eq, is_lt, ordering_reverse}
+use Rattle.std.specs.Ordering.{is_eq, is_lt, int_eq, ordering_reverse}
 use Rattle.std.specs.declared.cmp.Ordering.{Ordering}
 use Rattle.std.specs.declared.cmp.Ordering.TheVariants.{Less, Equal, Greater}
-use Rattle.std.proofs.lemmas.Bool.{cases_Bool, cases_lt, cond-true, cond-false, eqb-true, eqb-false, true≢false, false≢true, or_cases, and_parts, not-true}
+use Rattle.std.proofs.lemmas.Bool.{cases_Bool, cases_lt, cond-true, cond-false, eqb-true, eq-eqb, eqb-false, true≢false, false≢true, or_cases, and_parts, not-true}
 use Rattle.std.proofs.lemmas.Int.{ints}
 use Rattle.cub_proto.specs.declared.literal.Term.{Term}
 use Rattle.cub_proto.specs.declared.literal.PSide.{PSide}
@@ -33,12 +33,16 @@ use Rattle.cub_cube.proofs.RenamedFits.{renamed_fits, fits_within}
 use Rattle.theory_laws.specs.Solved.{PartsHaveSolutions}
 use Rattle.theory_laws.specs.Entailed.{Entails}
 use Rattle.theory_laws.specs.Kinds.{is_link}
+use Rattle.fin_dom.specs.Solution.{same_term}
+use Rattle.theory_laws.proofs.Domains.{same_is}
 use Rattle.theory_laws.proofs.Meeting.{consistent_parts}
 use Rattle.log_form.specs.Pieces.{IsAskable}
 use Rattle.subsume.specs.declared.marks.Marks.{Marks}
 use Rattle.subsume.specs.Injections.{IsWhole}
-use Rattle.subsume.specs.Marks.{asked_terms, is_global, is_cell, marks_member, marks_constructor, constructor_bit, low, twice, AreMarksOf, HaveOffersOf, AreAmong}
+use Rattle.subsume.specs.Marks.{asked_terms, is_global, is_cell, marks_member, marks_constructor, constructor_bit, low, twice, some_two, joint_bit, marks_joint, value_bit, marks_value, is_bond, AreMarksOf, HaveOffersOf, AreAmong}
 use Rattle.subsume.proofs.Asked.{MayFail, asks_nothing_new, member_entailed, sole_entailed}
+use Rattle.subsume.proofs.Found.{any_has, has_any, or_left_true, or_right_true, two_have, have_two}
+use Rattle.subsume.proofs.Held.{held_entailed}
 use Rattle.subsume.proofs.Fronts.{within_reach}
 use Rattle.subsume.proofs.Placed.{covers_whole}
 
@@ -158,26 +162,6 @@ asked_renamed r sig (Diff a b bound) =
     ∙ sym (map-append (renamed_term r) (integer_side_terms a) (integer_side_terms b))
 
 -- ---- tests of lists
-pub any_has : {A : Type 0} (test : A → Bool) (xs : List A) → list_any test xs ≡ true → (x : A) × Has xs x × (test x ≡ true)
-any_has test [] h = absurd (false≢true h)
-any_has test (x ∷ xs) h = elim (or_cases (test x) (list_any test xs) h) [
-  | inl here ↦ (x, inl refl, here)
-  | inr later ↦ let found = any_has test xs later in (found.0, inr found.1, found.2)
-]
-
-or_right_true : (a b : Bool) → b ≡ true → (a || b) ≡ true
-or_right_true true b h = refl
-or_right_true false b h = h
-
-or_left_true : (a b : Bool) → a ≡ true → (a || b) ≡ true
-or_left_true true b h = refl
-or_left_true false b h = cc
-
-pub has_any : {A : Type 0} (test : A → Bool) (xs : List A) (x : A) → Has xs x → test x ≡ true → list_any test xs ≡ true
-has_any test [] x h is = absurd h
-has_any test (y ∷ ys) x (inl same) is = or_left_true (test y) (list_any test ys) (ap test same ∙ is)
-has_any test (y ∷ ys) x (inr later) is = or_right_true (test y) (list_any test ys) (has_any test ys x later is)
-
 has_twice : {A : Type 0} (test : A → Bool) (xs : List A) (x y : A) → Has xs x → Has xs y → (x ≡ y → ⊥) → test x ≡ true → test y ≡ true → twice test xs ≡ true
 has_twice test [] x y h k differ one other = absurd h
 has_twice test (z ∷ zs) x y (inl first) (inl second) differ one other = absurd (differ (sym first ∙ second))
@@ -240,6 +224,17 @@ not_less_self Greater h k = absurd (cc)
 terms_differ : (t u : Term) (m n : ℕ) → is_lt (subject_cmp (FinIn t m) (FinIn u n)) ≡ true → t ≡ u → ⊥
 terms_differ t u m n order same =
     not_less_self (subject_cmp (FinIn t m) (FinIn t n)) (subject_cmp_total.antisymm (FinIn t m) (FinIn t n)) (subst (λ x. is_lt (subject_cmp (FinIn t m) (FinIn x n)) ≡ true) (sym same) order)
+
+-- ---- terms and numbers
+same_self : (t : Term) → same_term t t ≡ true
+same_self (Term.Global g) = eq-eqb g g refl
+same_self (Term.Cell a q) = and_both (a == a) (q == q) (eq-eqb a a refl) (eq-eqb q q refl)
+
+equal_numbers : (x y : ℤ) → x ≡ y → int_eq x y ≡ true
+equal_numbers x y h = grind (arith, ints)
+
+numbers_equal : (x y : ℤ) → int_eq x y ≡ true → x ≡ y
+numbers_equal x y h = grind (arith, ints)
 
 -- ---- a big cube that covers a small one that some state meets
 module _ (p : Protocol) (d c : Cube) (r : List ℕ) (asked : IsAskable p d) (given : IsAskable p c) (consistent : IsConsistent p c.width c.lits) (covers : Covers p d c r) where
@@ -366,6 +361,83 @@ module _ (p : Protocol) (d c : Cube) (r : List ℕ) (asked : IsAskable p d) (giv
     constructor_images b (ProcNe t u) inside passes = absurd (false≢true passes)
     constructor_images b (Diff t u bound) inside passes = absurd (false≢true passes)
 
+    sole_image : (t : Term) (mask : ℕ) → Contains d.lits (FinIn t mask) → (mask == 2 ^ low mask) ≡ true → Has c.lits (FinIn (renamed_term r t) mask)
+    sole_image t mask inside sole =
+        contains_Has c.lits (FinIn (renamed_term r t) mask)
+        (sole_entailed p c.width c.lits given.fits parts free (rise c given) (renamed_term r t) mask (low mask) (eqb-true mask (2 ^ low mask) sole) (image_fits (FinIn t mask) inside) (image_fails (FinIn t mask) inside) (image_follows (FinIn t mask) inside))
+
+    -- two memberships at one place stand at one place
+    joint_image : (n : ℕ) (l m : Lit) → Contains d.lits l → Contains d.lits m → marks_joint n l m ≡ true → some_two (marks_joint n) c.lits ≡ true
+    joint_image n (FinIn (Term.Cell a x) mask) (FinIn (Term.Cell b y) other) l_in m_in h =
+        let first = and_parts (mask == 2 ^ low mask) ((nat_lt a b && x == y) && ((other == 2 ^ low other) && (joint_bit a (low mask) b (low other) == n))) h in
+        let second = and_parts (nat_lt a b && x == y) ((other == 2 ^ low other) && (joint_bit a (low mask) b (low other) == n)) first.1 in
+        let seats = and_parts (nat_lt a b) (x == y) second.0 in
+        let third = and_parts (other == 2 ^ low other) (joint_bit a (low mask) b (low other) == n) second.1 in
+        let same : slice_index r x ≡ slice_index r y = ap (slice_index r) (eqb-true x y seats.1) in
+        have_two (marks_joint n) c.lits (FinIn (Term.Cell a (slice_index r x)) mask) (FinIn (Term.Cell b (slice_index r y)) other)
+        (sole_image (Term.Cell a x) mask l_in first.0) (sole_image (Term.Cell b y) other m_in third.0)
+        (and_both (mask == 2 ^ low mask) ((nat_lt a b && slice_index r x == slice_index r y) && ((other == 2 ^ low other) && (joint_bit a (low mask) b (low other) == n))) first.0
+        (and_both (nat_lt a b && slice_index r x == slice_index r y) ((other == 2 ^ low other) && (joint_bit a (low mask) b (low other) == n))
+        (and_both (nat_lt a b) (slice_index r x == slice_index r y) seats.0 (eq-eqb (slice_index r x) (slice_index r y) same)) second.1))
+    joint_image n (FinIn (Term.Cell a x) mask) (FinIn (Term.Global g) other) l_in m_in h = absurd (false≢true (and_parts (mask == 2 ^ low mask) false h).1)
+    joint_image n (FinIn (Term.Cell a x) mask) (FinEq t u) l_in m_in h = absurd (false≢true (and_parts (mask == 2 ^ low mask) false h).1)
+    joint_image n (FinIn (Term.Cell a x) mask) (FinNe t u) l_in m_in h = absurd (false≢true (and_parts (mask == 2 ^ low mask) false h).1)
+    joint_image n (FinIn (Term.Cell a x) mask) (ProcEq t u) l_in m_in h = absurd (false≢true (and_parts (mask == 2 ^ low mask) false h).1)
+    joint_image n (FinIn (Term.Cell a x) mask) (ProcNe t u) l_in m_in h = absurd (false≢true (and_parts (mask == 2 ^ low mask) false h).1)
+    joint_image n (FinIn (Term.Cell a x) mask) (Diff t u bound) l_in m_in h = absurd (false≢true (and_parts (mask == 2 ^ low mask) false h).1)
+    joint_image n (FinIn (Term.Global g) mask) m l_in m_in h = absurd (false≢true h)
+    joint_image n (FinEq t u) m l_in m_in h = absurd (false≢true h)
+    joint_image n (FinNe t u) m l_in m_in h = absurd (false≢true h)
+    joint_image n (ProcEq t u) m l_in m_in h = absurd (false≢true h)
+    joint_image n (ProcNe t u) m l_in m_in h = absurd (false≢true h)
+    joint_image n (Diff t u bound) m l_in m_in h = absurd (false≢true h)
+
+    joint_offered : (n : ℕ) → some_two (marks_joint n) d.lits ≡ true → some_two (marks_joint n) c.lits ≡ true
+    joint_offered n h =
+        let two = two_have (marks_joint n) d.lits h in
+        joint_image n two.0 two.1 (has_Contains d.lits two.0 two.2) (has_Contains d.lits two.1 two.3) two.4
+
+  -- a value at which the big cube holds a term is one at which the small cube does
+  module _ (free : list_any is_bond c.lits ≡ false) where
+    value_kept : (t : Term) (k : ℤ) → value_bit (renamed_term r t) k ≡ value_bit t k
+    value_kept (Term.Global g) k = refl
+    value_kept (Term.Cell a q) k = refl
+
+    held_image : (n : ℕ) (t u : Term) (k bound : ℤ) → Contains d.lits (Diff (At t) Zero k) → Contains d.lits (Diff Zero (At u) bound) → u ≡ t → bound +ℤ k ≡ pos 0 → (value_bit t k == n) ≡ true → some_two (marks_value n) c.lits ≡ true
+    held_image n t u k bound l_in m_in same zero bit =
+        let m_at : Contains d.lits (Diff Zero (At t) bound) = subst (λ x. Contains d.lits (Diff Zero (At x) bound)) same m_in in
+        let held = held_entailed p c.width c.lits given.fits parts free (renamed_term r t) k bound zero
+        (image_fits (Diff (At t) Zero k) l_in) (image_fits (Diff Zero (At t) bound) m_at) (image_follows (Diff (At t) Zero k) l_in) (image_follows (Diff Zero (At t) bound) m_at) in
+        have_two (marks_value n) c.lits (Diff (At (renamed_term r t)) Zero k) (Diff Zero (At (renamed_term r t)) bound)
+        (contains_Has c.lits (Diff (At (renamed_term r t)) Zero k) held.upper) (contains_Has c.lits (Diff Zero (At (renamed_term r t)) bound) held.lower)
+        (and_both (value_bit (renamed_term r t) k == n) (same_term (renamed_term r t) (renamed_term r t) && int_eq (bound +ℤ k) (pos 0)) (ap (λ x. x == n) (value_kept t k) ∙ bit)
+        (and_both (same_term (renamed_term r t) (renamed_term r t)) (int_eq (bound +ℤ k) (pos 0)) (same_self (renamed_term r t)) (equal_numbers (bound +ℤ k) (pos 0) zero)))
+
+    value_image : (n : ℕ) (l m : Lit) → Contains d.lits l → Contains d.lits m → marks_value n l m ≡ true → some_two (marks_value n) c.lits ≡ true
+    value_image n (FinIn t mask) m l_in m_in h = absurd (false≢true h)
+    value_image n (FinEq t u) m l_in m_in h = absurd (false≢true h)
+    value_image n (FinNe t u) m l_in m_in h = absurd (false≢true h)
+    value_image n (ProcEq t u) m l_in m_in h = absurd (false≢true h)
+    value_image n (ProcNe t u) m l_in m_in h = absurd (false≢true h)
+    value_image n (Diff Zero b k) m l_in m_in h = absurd (false≢true h)
+    value_image n (Diff (At t) (At u) k) m l_in m_in h = absurd (false≢true h)
+    value_image n (Diff (At t) Zero k) (FinIn u mask) l_in m_in h = absurd (false≢true (and_parts (value_bit t k == n) false h).1)
+    value_image n (Diff (At t) Zero k) (FinEq a b) l_in m_in h = absurd (false≢true (and_parts (value_bit t k == n) false h).1)
+    value_image n (Diff (At t) Zero k) (FinNe a b) l_in m_in h = absurd (false≢true (and_parts (value_bit t k == n) false h).1)
+    value_image n (Diff (At t) Zero k) (ProcEq a b) l_in m_in h = absurd (false≢true (and_parts (value_bit t k == n) false h).1)
+    value_image n (Diff (At t) Zero k) (ProcNe a b) l_in m_in h = absurd (false≢true (and_parts (value_bit t k == n) false h).1)
+    value_image n (Diff (At t) Zero k) (Diff Zero Zero bound) l_in m_in h = absurd (false≢true (and_parts (value_bit t k == n) false h).1)
+    value_image n (Diff (At t) Zero k) (Diff (At u) b bound) l_in m_in h = absurd (false≢true (and_parts (value_bit t k == n) false h).1)
+    value_image n (Diff (At t) Zero k) (Diff Zero (At u) bound) l_in m_in h =
+        let first = and_parts (value_bit t k == n) (same_term u t && int_eq (bound +ℤ k) (pos 0)) h in
+        let second = and_parts (same_term u t) (int_eq (bound +ℤ k) (pos 0)) first.1 in
+        held_image n t u k bound l_in m_in (same_is u t second.0) (numbers_equal (bound +ℤ k) (pos 0) second.1) first.0
+
+    value_offered : (n : ℕ) → some_two (marks_value n) d.lits ≡ true → some_two (marks_value n) c.lits ≡ true
+    value_offered n h =
+        let two = two_have (marks_value n) d.lits h in
+        value_image n two.0 two.1 (has_Contains d.lits two.0 two.2) (has_Contains d.lits two.1 two.3) two.4
+
   global_kept : (b : ℕ) (t : Term) → is_global b (renamed_term r t) ≡ is_global b t
   global_kept b (Term.Global g) = refl
   global_kept b (Term.Cell a q) = refl
@@ -381,6 +453,12 @@ module _ (p : Protocol) (d c : Cube) (r : List ℕ) (asked : IsAskable p d) (giv
     | inr none ↦ or_right_true (list_any is_link c.lits) y (free none h)
   ]
 
+  unless_bonded : (x y : Bool) → (list_any is_bond c.lits ≡ false → x ≡ true → y ≡ true) → x ≡ true → (list_any is_bond c.lits || y) ≡ true
+  unless_bonded x y free h = elim (cases_Bool (list_any is_bond c.lits)) [
+    | inl bonded ↦ or_left_true (list_any is_bond c.lits) y bonded
+    | inr none ↦ or_right_true (list_any is_bond c.lits) y (free none h)
+  ]
+
   pub marks_offered : (m n : Marks) → AreMarksOf (signature_of p) d.lits m → HaveOffersOf (signature_of p) c.lits n → AreAmong m n
   marks_offered m n needs offers = record {
     globals = λ b below h. offers.globals b below (term_offered (is_global b) (global_kept b) (needs.globals b below h));
@@ -391,4 +469,8 @@ module _ (p : Protocol) (d c : Cube) (r : List ℕ) (asked : IsAskable p d) (giv
         (unless_linked (list_any (marks_constructor b) d.lits) (list_any (marks_constructor b) c.lits) (λ free. once_offered (marks_constructor b) (constructor_images free b)) (needs.constructors b below h));
     pairs = λ b below h. offers.pairs b below
         (unless_linked (twice (marks_constructor b) d.lits) (twice (marks_constructor b) c.lits) (λ free. twice_offered (marks_constructor b) (constructor_images free b)) (needs.pairs b below h));
+    joint = λ b below h. offers.joint b below
+        (unless_linked (some_two (marks_joint b) d.lits) (some_two (marks_joint b) c.lits) (λ free. joint_offered free b) (needs.joint b below h));
+    values = λ b below h. offers.values b below
+        (unless_bonded (some_two (marks_value b) d.lits) (some_two (marks_value b) c.lits) (λ free. value_offered free b) (needs.values b below h));
   }

@@ -34,7 +34,8 @@ use Rattle.subsume.specs.Marks.{asked_terms, is_global, is_cell, AreAmong}
 use Rattle.subsume.specs.Summary.{IsSummary, IsOf, MayCover, IsCandidate, MentionsLike, joined}
 use Rattle.subsume.proofs.Bits.{either_bits}
 use Rattle.subsume.proofs.Changed.{one_case, two_cases, sides_alike, asked_sides}
-use Rattle.subsume.proofs.Marked.{any_has, has_any, marks_offered}
+use Rattle.subsume.proofs.Found.{any_has, has_any}
+use Rattle.subsume.proofs.Marked.{marks_offered}
 
 -- ---- one cube
 pub own_summary : (p : Protocol) (c : Cube) (s : Summary) → IsSummary p c s → IsOf p c s
@@ -45,6 +46,8 @@ own_summary p c s own = record {
     members = λ b below h. sym (own.needs.members b below) ∙ h;
     constructors = λ b below h. sym (own.needs.constructors b below) ∙ h;
     pairs = λ b below h. sym (own.needs.pairs b below) ∙ h;
+    joint = λ b below h. sym (own.needs.joint b below) ∙ h;
+    values = λ b below h. sym (own.needs.values b below) ∙ h;
   };
   offers = record {
     globals = λ b below h. own.offers.globals b below ∙ h;
@@ -52,6 +55,8 @@ own_summary p c s own = record {
     members = λ b below h. own.offers.members b below ∙ h;
     constructors = λ b below h. own.offers.constructors b below ∙ h;
     pairs = λ b below h. own.offers.pairs b below ∙ h;
+    joint = λ b below h. own.offers.joint b below ∙ h;
+    values = λ b below h. own.offers.values b below ∙ h;
   };
 }
 
@@ -76,6 +81,8 @@ of_first p c s t it = record {
     members = λ b below h. it.needs.members b below (common_first s.needs.members t.needs.members b h);
     constructors = λ b below h. it.needs.constructors b below (common_first s.needs.constructors t.needs.constructors b h);
     pairs = λ b below h. it.needs.pairs b below (common_first s.needs.pairs t.needs.pairs b h);
+    joint = λ b below h. it.needs.joint b below (common_first s.needs.joint t.needs.joint b h);
+    values = λ b below h. it.needs.values b below (common_first s.needs.values t.needs.values b h);
   };
   offers = record {
     globals = λ b below h. either_first s.offers.globals t.offers.globals b (it.offers.globals b below h);
@@ -83,6 +90,8 @@ of_first p c s t it = record {
     members = λ b below h. either_first s.offers.members t.offers.members b (it.offers.members b below h);
     constructors = λ b below h. either_first s.offers.constructors t.offers.constructors b (it.offers.constructors b below h);
     pairs = λ b below h. either_first s.offers.pairs t.offers.pairs b (it.offers.pairs b below h);
+    joint = λ b below h. either_first s.offers.joint t.offers.joint b (it.offers.joint b below h);
+    values = λ b below h. either_first s.offers.values t.offers.values b (it.offers.values b below h);
   };
 }
 
@@ -94,6 +103,8 @@ of_second p c s t it = record {
     members = λ b below h. it.needs.members b below (common_second s.needs.members t.needs.members b h);
     constructors = λ b below h. it.needs.constructors b below (common_second s.needs.constructors t.needs.constructors b h);
     pairs = λ b below h. it.needs.pairs b below (common_second s.needs.pairs t.needs.pairs b h);
+    joint = λ b below h. it.needs.joint b below (common_second s.needs.joint t.needs.joint b h);
+    values = λ b below h. it.needs.values b below (common_second s.needs.values t.needs.values b h);
   };
   offers = record {
     globals = λ b below h. either_second s.offers.globals t.offers.globals b (it.offers.globals b below h);
@@ -101,6 +112,8 @@ of_second p c s t it = record {
     members = λ b below h. either_second s.offers.members t.offers.members b (it.offers.members b below h);
     constructors = λ b below h. either_second s.offers.constructors t.offers.constructors b (it.offers.constructors b below h);
     pairs = λ b below h. either_second s.offers.pairs t.offers.pairs b (it.offers.pairs b below h);
+    joint = λ b below h. either_second s.offers.joint t.offers.joint b (it.offers.joint b below h);
+    values = λ b below h. either_second s.offers.values t.offers.values b (it.offers.values b below h);
   };
 }
 

@@ -29,6 +29,8 @@ common m n = record {
   members = bit_and m.members n.members;
   constructors = bit_and m.constructors n.constructors;
   pairs = bit_and m.pairs n.pairs;
+  joint = bit_and m.joint n.joint;
+  values = bit_and m.values n.values;
 }
 
 abbrev pub either : Marks → Marks → Marks
@@ -38,6 +40,8 @@ either m n = record {
   members = bit_or m.members n.members;
   constructors = bit_or m.constructors n.constructors;
   pairs = bit_or m.pairs n.pairs;
+  joint = bit_or m.joint n.joint;
+  values = bit_or m.values n.values;
 }
 
 -- the summary of the cubes of both: what all need, and what some offer
@@ -45,7 +49,7 @@ abbrev pub joined : Summary → Summary → Summary
 joined s t = record { needs = common s.needs t.needs; offers = either s.offers t.offers }
 
 abbrev pub filled : ℕ → Marks
-filled word = record { globals = word; arrays = word; members = word; constructors = word; pairs = word }
+filled word = record { globals = word; arrays = word; members = word; constructors = word; pairs = word; joint = word; values = word }
 
 -- the summary of no cubes
 abbrev pub nothing : Summary

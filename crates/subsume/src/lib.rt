@@ -17,6 +17,7 @@ pub use covering::{covers, covers_loaded, load_small};
 
 // Marks of cubes.
 mod marks;
+mod ties;
 
 pub use marks::Marks;
 

@@ -1,6 +1,7 @@
 //! Marks of a cube: a few words of bits that say which globals and arrays its literals ask for, of which arrays two cells
-//! have memberships, and which memberships in one constructor stand there, once and twice. They are a Bloom filter on what
-//! one cube must have to entail another one's literals: where two things share a bit, the filter passes more, never less.
+//! have memberships, which memberships in one constructor stand there, once, twice and two at one place, and at which values
+//! integer terms are held. They are a Bloom filter on what one cube must have to entail another one's literals: where two
+//! things share a bit, the filter passes more, never less.
 
 ghost use Rattle.std.specs.Prelude.{◌≡◌, ◌++◌, ◌∷◌, [], ◌+◌, ◌-◌, ◌*◌, ◌%◌, ◌^◌, ◌<◌, ◌==◌, ◌&&◌, ◌||◌, not, ◌↔◌, ℕ, List, IsTrue, if◌then◌else◌, false};
 ghost use Rattle.std.specs.List.{list_any};
@@ -11,9 +12,10 @@ ghost use Rattle.cub_proto.specs.StateOf.{signature_of};
 ghost use Rattle.cub_proto.specs.Truth.{has_bit};
 ghost use Rattle.cub_cube.specs.Mentions.{process_side_terms, integer_side_terms};
 ghost use Rattle.theory_laws.specs.Kinds.{is_link};
-ghost use Rattle.subsume.specs.Marks.{asked_terms, is_global, is_cell, marks_member, marks_constructor, constructor_bit, low, HasMarks, HasOffers, IsPart, AreAmong};
+ghost use Rattle.subsume.specs.Marks.{asked_terms, is_global, is_cell, marks_member, marks_constructor, constructor_bit, low, is_bond, HasMarks, HasOffers, IsPart, AreAmong};
 ghost use Rattle.subsume.specs.Gathering.{IsGathered};
 
+use crate::ties::{is_bond, joint_bits, value_bits};
 use cub_proto::{ISide, Lit, PSide, Protocol, Term, full_mask};
 
 /// Marks of literals, or of what they offer to others.
@@ -29,17 +31,26 @@ pub struct Marks {
     pub constructors: u64,
     /// The same bits, where two such memberships have it.
     pub pairs: u64,
+    /// Two such memberships at one place: a bit for the two constructors, shared with others.
+    pub joint: u64,
+    /// Integer terms held at one value: a bit for each value of a global or array, shared with others.
+    pub values: u64,
 }
 
 // Marks as they are gathered, with the arrays of memberships so far.
 #[derive(Clone, Copy)]
 struct Gathering {
-    marks: Marks,
+    globals: u64,
+    arrays: u64,
+    members: u64,
+    constructors: u64,
+    pairs: u64,
     cells: u64,
     linked: bool,
+    bonded: bool,
 }
 
-fn power(number: u16) -> u64
+pub(crate) fn power(number: u16) -> u64
     requires { number < 64 }
     ensures { result ≡ 2 ^ number }
 {
@@ -47,7 +58,7 @@ fn power(number: u16) -> u64
 }
 
 // The word with that bit alone; none where there is no such bit.
-fn bit(number: u16) -> u64
+pub(crate) fn bit(number: u16) -> u64
     ensures { (b : ℕ) → b < 64 → has_bit result b ≡ (number == b) }
 {
     if number < 64 { power(number) } else { 0 }
@@ -128,7 +139,7 @@ fn member_bits(lit: &Lit) -> u64
     }
 }
 
-fn constructor_bit(term: Term, constructor: u16) -> u16
+pub(crate) fn constructor_bit(term: Term, constructor: u16) -> u16
     requires { constructor < 64 }
     ensures value { result ≡ constructor_bit term constructor }
     ensures inside { result < 64 }
@@ -174,7 +185,7 @@ fn is_link(lit: &Lit) -> bool
 }
 
 // The bits of either word.
-fn either(a: u64, b: u64) -> u64
+pub(crate) fn either(a: u64, b: u64) -> u64
     ensures { (c : ℕ) → has_bit result c ≡ (has_bit a c || has_bit b c) }
 {
     a | b
@@ -209,6 +220,13 @@ fn links(linked: bool, lit: &Lit) -> bool
     linked || is_link(lit)
 }
 
+// The same of integer terms.
+fn bonds(bonded: bool, lit: &Lit) -> bool
+    ensures { result ≡ (bonded || is_bond lit.now) }
+{
+    bonded || is_bond(lit)
+}
+
 impl Gathering {
     ghost use Rattle.std.specs.Prelude.{◌≡◌, ◌++◌, ◌∷◌, [], List};
     ghost use Rattle.cub_proto.specs.StateOf.{signature_of};
@@ -220,15 +238,14 @@ impl Gathering {
         ensures { (sig : Signature) → IsGathered sig [] result }
     {
         Gathering {
-            marks: Marks {
-                globals: 0,
-                arrays: 0,
-                members: 0,
-                constructors: 0,
-                pairs: 0,
-            },
+            globals: 0,
+            arrays: 0,
+            members: 0,
+            constructors: 0,
+            pairs: 0,
             cells: 0,
             linked: false,
+            bonded: false,
         }
     }
 
@@ -239,23 +256,25 @@ impl Gathering {
         let (first, second) = asked_terms(protocol, lit);
         let member = member_bits(lit);
         let constructor = constructor_bits(lit);
-        let Marks {
+        let Gathering {
             globals,
             arrays,
             members,
             constructors,
             pairs,
-        } = self.marks;
+            cells,
+            linked,
+            bonded,
+        } = self;
         Gathering {
-            marks: Marks {
-                globals: either(globals, either(global_bits(first), global_bits(second))),
-                arrays: either(arrays, either(array_bits(first), array_bits(second))),
-                members: either(members, both(self.cells, member)),
-                constructors: either(constructors, constructor),
-                pairs: either(pairs, both(constructors, constructor)),
-            },
-            cells: either(self.cells, member),
-            linked: links(self.linked, lit),
+            globals: either(globals, either(global_bits(first), global_bits(second))),
+            arrays: either(arrays, either(array_bits(first), array_bits(second))),
+            members: either(members, both(cells, member)),
+            constructors: either(constructors, constructor),
+            pairs: either(pairs, both(constructors, constructor)),
+            cells: either(cells, member),
+            linked: links(linked, lit),
+            bonded: bonds(bonded, lit),
         }
     }
 }
@@ -271,19 +290,40 @@ fn gather(protocol: &Protocol, lits: &[Lit]) -> Gathering
     gathering
 }
 
-// What literals with these marks offer.
-fn offered(marks: Marks, linked: bool) -> Marks
-    ensures { (sig : Signature) (lits : List Lit) → HasMarks sig lits marks → linked ≡ list_any is_link lits → HasOffers sig lits result }
+// The marks of the literals, of which those of single ones are gathered.
+fn whole(gathering: &Gathering, lits: &[Lit]) -> Marks
+    ensures { (sig : Signature) → IsGathered sig lits.now gathering.now → HasMarks sig lits.now result }
 {
-    if !linked {
-        return marks;
+    Marks {
+        globals: gathering.globals,
+        arrays: gathering.arrays,
+        members: gathering.members,
+        constructors: gathering.constructors,
+        pairs: gathering.pairs,
+        joint: joint_bits(lits),
+        values: value_bits(lits),
     }
+}
+
+// All bits where it is so, else those of the word.
+fn all_if(filled: bool, word: u64) -> u64
+    ensures { (b : ℕ) → b < 64 → has_bit result b ≡ (filled || has_bit word b) }
+{
+    if filled { u64::MAX } else { word }
+}
+
+// What literals with these marks offer.
+fn offered(marks: &Marks, linked: bool, bonded: bool) -> Marks
+    ensures { (sig : Signature) (lits : List Lit) → HasMarks sig lits marks.now → linked ≡ list_any is_link lits → bonded ≡ list_any is_bond lits → HasOffers sig lits result }
+{
     Marks {
         globals: marks.globals,
         arrays: marks.arrays,
-        members: u64::MAX,
-        constructors: u64::MAX,
-        pairs: u64::MAX,
+        members: all_if(linked, marks.members),
+        constructors: all_if(linked, marks.constructors),
+        pairs: all_if(linked, marks.pairs),
+        joint: all_if(linked, marks.joint),
+        values: all_if(bonded, marks.values),
     }
 }
 
@@ -293,7 +333,9 @@ pub(crate) fn marks_of(protocol: &Protocol, lits: &[Lit]) -> (Marks, Marks)
     ensures offers { HasOffers (signature_of protocol.now) lits.now result.1 }
 {
     let gathering = gather(protocol, lits);
-    (gathering.marks, offered(gathering.marks, gathering.linked))
+    let marks = whole(&gathering, lits);
+    let offers = offered(&marks, gathering.linked, gathering.bonded);
+    (marks, offers)
 }
 
 impl Marks {
@@ -309,5 +351,7 @@ impl Marks {
             && is_part(self.globals, other.globals)
             && is_part(self.members, other.members)
             && is_part(self.pairs, other.pairs)
+            && is_part(self.joint, other.joint)
+            && is_part(self.values, other.values)
     }
 }

@@ -35,6 +35,8 @@ fn filled(word: u64) -> Marks
         members: word,
         constructors: word,
         pairs: word,
+        joint: word,
+        values: word,
     }
 }
 
@@ -47,6 +49,8 @@ fn common(m: &Marks, n: &Marks) -> Marks
         members: m.members & n.members,
         constructors: m.constructors & n.constructors,
         pairs: m.pairs & n.pairs,
+        joint: m.joint & n.joint,
+        values: m.values & n.values,
     }
 }
 
@@ -59,6 +63,8 @@ fn either(m: &Marks, n: &Marks) -> Marks
         members: m.members | n.members,
         constructors: m.constructors | n.constructors,
         pairs: m.pairs | n.pairs,
+        joint: m.joint | n.joint,
+        values: m.values | n.values,
     }
 }
 

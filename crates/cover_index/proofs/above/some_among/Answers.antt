@@ -35,7 +35,7 @@ loop-i-preserved-then-keys_pass c =
     let below : i < length cubes = omega (arith, c.requires.summed.within) in
     let none : DoesCover p (cube_at cubes i) c.args.cube.now → ⊥ =
     c.keys_pass.ensures c.if-keys_pass.true p (cube_at cubes i) c.args.cube.now (summary_at c.args.summaries.now i) c.args.own.now
-    (key_is needs_key c.needs-needs.result.now c.args.summaries.now i c.needs-needs.ensures (omega (arith, c.requires.summed.enough))) refl
+    (key_is needs_key c.needs-needs.result.now c.args.summaries.now i c.needs-needs.ensures (omega (arith, c.requires.summed.enough))) c.offers_key-offered.ensures
     (own_summary _ _ _ (c.requires.summed.own i (omega arith))) (own_summary _ _ _ c.requires.asked.own) (c.requires.summed.askable i (omega arith)) c.requires.asked.askable c.requires.asked.met in
     record {
       asked = c.loop-i.invariant.asked;

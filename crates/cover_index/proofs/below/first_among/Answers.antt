@@ -35,7 +35,7 @@ loop-i-preserved-then-keys_pass c =
     let i = c.loop-i.i in
     let below : i < length cubes = omega (arith, c.requires.summed.within) in
     let none : DoesCover p c.args.cube.now (cube_at cubes i) → ⊥ =
-    c.keys_pass.ensures c.if-keys_pass.true p c.args.cube.now (cube_at cubes i) c.args.own.now (summary_at c.args.summaries.now i) refl
+    c.keys_pass.ensures c.if-keys_pass.true p c.args.cube.now (cube_at cubes i) c.args.own.now (summary_at c.args.summaries.now i) c.needs_key-needed.ensures
     (key_is offers_key c.offers-offers.result.now c.args.summaries.now i c.offers-offers.ensures (omega (arith, c.requires.summed.enough)))
     (own_summary _ _ _ c.requires.own) (own_summary _ _ _ (c.requires.summed.own i (omega arith))) c.requires.fit (c.requires.summed.askable i (omega arith)) (λ h. c.requires.met i (ltb-true _ _ h) below) in
     record {

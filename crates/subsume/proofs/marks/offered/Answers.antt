@@ -1,17 +1,16 @@
-use Rattle.std.proofs.Common.{◌≡◌, ◌∙◌, ◌||◌, true, sym, ap}
-use Rattle.std.specs.List.{list_any}
-use Rattle.theory_laws.specs.Kinds.{is_link}
-use Rattle.subsume.specs.Marks.{twice, marks_member, marks_constructor}
-use Rattle.subsume.proofs.Bits.{all_bits}
+use Rattle.std.proofs.Common.{◌≡◌, ◌∙◌, ◌||◌, Bool, ap}
 use Rattle.subsume.proofs.marks.offered.Goals as goal
 
+or_words : (x y a b : Bool) → x ≡ y → a ≡ b → (x || a) ≡ (y || b)
+or_words x y a b e f = ap (λ z. z || a) e ∙ ap (λ z. y || z) f
+
 pub returns : goal.returns
-returns c sig lits marks linked =
-    let link : list_any is_link lits ≡ true = sym linked ∙ c.if-not-linked.false in
-    record {
-      globals = marks.globals;
-      arrays = marks.arrays;
-      members = λ b below. all_bits b below ∙ sym (ap (λ x. x || twice (marks_member b) lits) link);
-      constructors = λ b below. all_bits b below ∙ sym (ap (λ x. x || list_any (marks_constructor b) lits) link);
-      pairs = λ b below. all_bits b below ∙ sym (ap (λ x. x || twice (marks_constructor b) lits) link);
-    }
+returns c sig lits marks linked bonded = record {
+  globals = marks.globals;
+  arrays = marks.arrays;
+  members = λ b below. c.all_if.ensures b below ∙ or_words _ _ _ _ linked (marks.members b below);
+  constructors = λ b below. c.all_if-2.ensures b below ∙ or_words _ _ _ _ linked (marks.constructors b below);
+  pairs = λ b below. c.all_if-3.ensures b below ∙ or_words _ _ _ _ linked (marks.pairs b below);
+  joint = λ b below. c.all_if-4.ensures b below ∙ or_words _ _ _ _ linked (marks.joint b below);
+  values = λ b below. c.all_if-5.ensures b below ∙ or_words _ _ _ _ bonded (marks.values b below);
+}

@@ -1,0 +1,4 @@
+pub mod SidesRead
+pub mod FormsRead
+pub mod ScopeRead
+pub mod BodiesRead

@@ -1,0 +1,4 @@
+pub mod Phrases
+pub mod TermPhrases
+pub mod MarkPhrases
+pub mod Whole

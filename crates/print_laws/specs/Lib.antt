@@ -1,0 +1,4 @@
+pub mod Spot
+pub mod TermTree
+pub mod Tree
+pub mod Sentences

@@ -1,0 +1,4 @@
+pub mod InnerScope
+pub mod GuardsRead
+pub mod HeadsRead
+pub mod UpdatesRead
