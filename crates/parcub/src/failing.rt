@@ -82,13 +82,7 @@ fn is_answered(
 }
 
 // The same where the sink fails at one call.
-fn is_cut(
-    rt: &impl Abort,
-    alloc: Global,
-    row: &Row,
-    most: usize,
-    call: u64,
-) -> Result<(), Fail>
+fn is_cut(rt: &impl Abort, alloc: Global, row: &Row, most: usize, call: u64) -> Result<(), Fail>
     requires { 0 < most }
 {
     let (_, _, _, status, written) = *row;

@@ -10,13 +10,13 @@ returns-in-FinEq c n below = no_bits n ∙ none_any (marks_joint n c.args.first.
     elim c.in-FinEq.is [
       | inl h0 ↦ (λ m. subst (λ l. marks_joint n l m ≡ false) (sym h0.2) refl)
       | inr r0 ↦ elim r0 [
-          | inl h1 ↦ (λ m. subst (λ l. marks_joint n l m ≡ false) (sym h1.2) refl)
-          | inr r1 ↦ elim r1 [
-              | inl h2 ↦ (λ m. subst (λ l. marks_joint n l m ≡ false) (sym h2.2) refl)
-              | inr r2 ↦ elim r2 [
-                  | inl h3 ↦ (λ m. subst (λ l. marks_joint n l m ≡ false) (sym h3.2) refl)
-                  | inr h4 ↦ (λ m. subst (λ l. marks_joint n l m ≡ false) (sym h4.3) refl)
-                ]
-            ]
+        | inl h1 ↦ (λ m. subst (λ l. marks_joint n l m ≡ false) (sym h1.2) refl)
+        | inr r1 ↦ elim r1 [
+          | inl h2 ↦ (λ m. subst (λ l. marks_joint n l m ≡ false) (sym h2.2) refl)
+          | inr r2 ↦ elim r2 [
+            | inl h3 ↦ (λ m. subst (λ l. marks_joint n l m ≡ false) (sym h3.2) refl)
+            | inr h4 ↦ (λ m. subst (λ l. marks_joint n l m ≡ false) (sym h4.3) refl)
+          ]
         ]
+      ]
     ])
