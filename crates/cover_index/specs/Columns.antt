@@ -1,6 +1,6 @@
 -- Words of up to 64 cubes, turned round: word b has a bit for each cube whose own word has bit b. One operation on two such
 -- words then looks at one bit of all the cubes.
-use Rattle.std.specs.Prelude.{◌≡◌, ℕ, ◌<◌, Bool, true, false, not, List, length, slice_index_or, IsTrue}
+use Rattle.std.specs.Prelude.{◌≡◌, ℕ, ◌<◌, Bool, not, List, length, slice_index_or, IsTrue}
 use Rattle.cub_proto.specs.Truth.{has_bit}
 use Rattle.subsume.specs.declared.summary.Summary.{Summary}
 use Rattle.cover_index.specs.Asked.{summary_at, needs_key, offers_key}

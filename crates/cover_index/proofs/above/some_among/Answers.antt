@@ -1,4 +1,4 @@
-use Rattle.std.proofs.Common.{◌≡◌, ◌<◌, ◌≤◌, ◌+◌, ℕ, List, length, refl, sym, subst, arith}
+use Rattle.std.proofs.Common.{◌≡◌, ◌<◌, ◌≤◌, ◌+◌, ℕ, List, length, sym, subst, arith}
 use Rattle.std.specs.Prelude.{slice_index}
 use Rattle.cub_cube.specs.declared.cube.Cube.{Cube}
 use Rattle.cub_cube.specs.Cover.{DoesCover}
@@ -6,7 +6,6 @@ use Rattle.log_form.specs.Pieces.{IsAskable}
 use Rattle.log_form.specs.Links.{cube_at}
 use Rattle.subsume.specs.Summary.{IsSummary, IsCandidate}
 use Rattle.subsume.specs.declared.summary.Summary.{Summary}
-use Rattle.subsume.proofs.Summarized.{own_summary}
 use Rattle.subsume.proofs.Retiring.{cube_read}
 use Rattle.cover_index.specs.Counted.{RisesIf}
 use Rattle.cover_index.specs.Asked.{summary_at}

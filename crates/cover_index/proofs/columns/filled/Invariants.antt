@@ -1,4 +1,4 @@
-use Rattle.std.proofs.Common.{◌≡◌, ℕ, ◌<◌, ◌≤◌}
+use Rattle.std.proofs.Common.{◌≡◌, ℕ}
 use Rattle.std.specs.Prelude.{length, IsTrue}
 use Rattle.cub_proto.specs.Truth.{has_bit}
 use Rattle.cover_index.specs.Columns.{column}

@@ -1,5 +1,5 @@
 use Rattle.std.proofs.Common.{ℕ, ◌<◌}
-use Rattle.std.specs.Prelude.{IsTrue, length}
+use Rattle.std.specs.Prelude.{IsTrue}
 use Rattle.cub_proto.specs.Truth.{has_bit}
 use Rattle.cover_index.specs.Columns.{column}
 use Rattle.cover_index.proofs.columns.met.Given as goal

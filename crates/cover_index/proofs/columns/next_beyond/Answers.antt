@@ -1,6 +1,5 @@
-use Rattle.std.proofs.Common.{◌≡◌, ◌<◌, ◌≤◌, ◌&&◌, ◌||◌, Bool, true, false, not, inl, inr, sym, ap, ◌∙◌, arith}
-use Rattle.std.specs.Prelude.{IsTrue}
-use Rattle.std.proofs.lemmas.Bool.{cases_Bool, or_cases, true≢false}
+use Rattle.std.proofs.Common.{◌≡◌, ◌&&◌, true, not, inl, inr, sym, ap, ◌∙◌, arith}
+use Rattle.std.proofs.lemmas.Bool.{cases_Bool, or_cases}
 use Rattle.cub_proto.specs.Truth.{has_bit}
 use Rattle.subsume.proofs.Bits.{all_bits}
 use Rattle.cover_index.proofs.columns.next_beyond.Goals as goal

@@ -1,8 +1,7 @@
-use Rattle.std.proofs.Common.{◌≡◌, ◌<◌, ◌++◌, ◌∷◌, [], List, length, not, sym, ap, ◌∙◌, subst, arith}
+use Rattle.std.proofs.Common.{◌≡◌, ◌++◌, ◌∷◌, [], List, length, sym, ap, ◌∙◌, subst, arith}
 use Rattle.cub_proto.specs.Truth.{has_bit}
 use Rattle.subsume.specs.declared.summary.Summary.{Summary}
-use Rattle.cover_index.specs.Asked.{needs_key, offers_key}
-use Rattle.cover_index.specs.Columns.{column, AreColumns, needs_mark, lacks_mark}
+use Rattle.cover_index.specs.Columns.{AreColumns, needs_mark, lacks_mark}
 use Rattle.cover_index.proofs.Columned.{columns_same, needs_push, lacks_push}
 use Rattle.cover_index.proofs.summaries.Summaries.push.Goals as goal
 
