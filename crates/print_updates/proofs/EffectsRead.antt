@@ -60,8 +60,8 @@ pub record IsEffect (frame : Frame) (scope : List Local) (params : ℕ) (nodes :
 
 abbrev pub IsEffectOf : Frame → RestNode → Transition → Type 0
 IsEffectOf frame (rests.Unsafe body) t = ⊥
-IsEffectOf frame (rests.Invariant word body) t = ⊥
-IsEffectOf frame (rests.Transition name names guard updates) t = IsEffect frame (locals 3 names) (length (take 3 names)) updates t
+IsEffectOf frame (rests.Invariant leaf body) t = ⊥
+IsEffectOf frame (rests.Transition own names guard updates) t = IsEffect frame (locals 3 names) (length (take 3 names)) updates t
 
 module _ (frame : Frame) (scope : List Local) (params : ℕ) where
   all_written : (nodes : List UpdateNode) (us : List Update) → AllZip (IsRead frame scope params) nodes us → AllZip (IsReadAs frame.sig) (map (written frame scope params) nodes) us
@@ -118,8 +118,8 @@ module _ (frame : Frame) (t : Transition) (name : Leaf) (names : List Leaf) (gua
 
 node_is : (frame : Frame) (node : RestNode) (t : Transition) → IsHeadOf frame node t → IsEffectOf frame node t → transition_at frame node ≡ sound (t ∷ [])
 node_is frame (rests.Unsafe body) t head effect = absurd head
-node_is frame (rests.Invariant word body) t head effect = absurd head
-node_is frame (rests.Transition name names guard nodes) t head effect = ap listed (transition_is frame t name names guard nodes head effect)
+node_is frame (rests.Invariant leaf body) t head effect = absurd head
+node_is frame (rests.Transition own names guard nodes) t head effect = ap listed (transition_is frame t own names guard nodes head effect)
 
 pub nodes_are : (frame : Frame) (nodes : List RestNode) (ts : List Transition) → AllZip (IsHeadOf frame) nodes ts → AllZip (IsEffectOf frame) nodes ts → transitions_of frame nodes ≡ sound ts
 nodes_are frame [] [] heads effects = refl
