@@ -1,10 +1,8 @@
 -- The stages of reading one behind the other: tokens, tree, protocol, each the only one.
-use Rattle.std.proofs.Common.{◌≡◌, List, refl, subst}
-use Rattle.std.specs.Prelude.{IsTrue, Result, Ok}
+use Rattle.std.proofs.Common.{◌≡◌, List, subst}
+use Rattle.std.specs.Prelude.{IsTrue, Ok}
 use Rattle.cub_lexer.specs.declared.token.Token.{Token}
-use Rattle.cub_lexer.specs.declared.fault.LexKind.{LexKind}
 use Rattle.cub_lexer.specs.Reading as lexical
-use Rattle.cub_parse.specs.declared.tree.Syntax.{Syntax}
 use Rattle.cub_parse.specs.Sentence.{Sentence, numbered, max_levels}
 use Rattle.cub_types.specs.Typing as typing
 use Rattle.cub_types.specs.Laws.{SameParts, OneProtocol}

@@ -1,5 +1,5 @@
 -- No fault stands among the names of printed transitions.
-use Rattle.std.proofs.Common.{◌≡◌, ℕ, ◌≤◌, Bool, true, List, [], ◌∷◌, ◌++◌, length, map, drop, refl, ap, ◌∙◌, subst, arith}
+use Rattle.std.proofs.Common.{◌≡◌, ℕ, ◌+◌, ◌≤◌, true, List, [], ◌∷◌, ◌++◌, length, map, drop, refl, arith}
 use Rattle.std.specs.Prelude.{IsTrue, ◌&&◌, not, nat_le, count_by, flat_map}
 use Rattle.std.specs.List.{AllZip, list_all}
 use Rattle.cub_base.specs.Name.{is_declarable}

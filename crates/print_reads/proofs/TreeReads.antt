@@ -1,14 +1,11 @@
 -- The tree of a printed protocol reads as the protocol, since its parts do.
-use Rattle.std.proofs.Common.{◌≡◌, Bool, List, [], ◌∷◌, ◌++◌, length, drop, Option, Some, refl, sym, ap, ◌∙◌, subst}
+use Rattle.std.proofs.Common.{◌≡◌, List, [], ◌++◌, drop, Option, Some, refl, sym, ap, ◌∙◌, subst}
 use Rattle.std.specs.Prelude.{IsTrue, ◌&&◌, flat_map}
 use Rattle.std.specs.List.{AllZip}
 use Rattle.cub_base.proofs.Bools.{and_left, and_right}
-use Rattle.cub_parse.specs.declared.tree.Leaf.{Leaf}
 use Rattle.cub_parse.specs.declared.tree.RestNode.{RestNode}
 use Rattle.cub_names.specs.declared.fault.Fault.{Fault}
 use Rattle.cub_names.specs.Checked.{Checked, sound}
-use Rattle.cub_names.specs.Declarations.{declared, declared_faults}
-use Rattle.cub_names.specs.Meaning.{Frame}
 use Rattle.cub_types.specs.declared.reading.Rest.{Rest}
 use Rattle.cub_types.specs.Bodies.{start, goals_from}
 use Rattle.cub_types.specs.Typing.{Reads, transition_name, transition_name_faults, transitions_of, rest_of, rest_typed, if_none}

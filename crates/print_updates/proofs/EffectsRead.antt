@@ -1,5 +1,5 @@
 -- The updates of a printed transition together are those of the transition, and so the transition is read as itself.
-use Rattle.std.proofs.Common.{◌≡◌, ℕ, ◌+◌, ◌≤◌, Bool, true, false, List, [], ◌∷◌, ◌++◌, length, map, take, Option, Some, None, refl, sym, ap, subst, ◌∙◌, arith}
+use Rattle.std.proofs.Common.{◌≡◌, ℕ, ◌+◌, ◌≤◌, Bool, true, List, [], ◌∷◌, ◌++◌, length, map, take, Option, Some, None, refl, sym, ap, subst, ◌∙◌, arith}
 use Rattle.std.specs.Prelude.{IsTrue, ◌&&◌, codes, nat_le, count_by, if◌then◌else◌, flat_map}
 use Rattle.std.specs.List.{AllZip, list_all}
 use Rattle.cub_base.specs.Name.{is_declarable}
@@ -16,7 +16,6 @@ use Rattle.cub_names.specs.Checked.{Checked, sound}
 use Rattle.cub_names.specs.Meaning.{Frame}
 use Rattle.cub_names.specs.Scope.{variable_faults, locals, locals_from}
 use Rattle.cub_names.specs.Words.{word_of}
-use Rattle.cub_types.specs.declared.written.Written.{Written}
 use Rattle.cub_types.specs.declared.updating.Updating.{Updating}
 use Rattle.cub_types.specs.Writes.{written}
 use Rattle.cub_types.specs.Joined.{no_updates, updating, updating_faults, updates_of, targets, long_faults}
@@ -44,7 +43,7 @@ use Rattle.print_names.proofs.Positions.{at_left, at_right, at_regrouped}
 use Rattle.print_names.proofs.Rows.{AreWords, row_zip}
 use Rattle.print_formulas.proofs.ScopeRead.{places_named, parameters_read, locals_are, taken_are}
 use Rattle.print_transitions.specs.HeadsAreRead.{IsHeadOf}
-use Rattle.print_transitions.proofs.UpdatesRead.{IsUpdateRead, update_read}
+use Rattle.print_transitions.proofs.UpdatesRead.{update_read}
 use Rattle.print_updates.specs.Normal.{is_normal_update, has_normal_effect}
 use Rattle.print_updates.proofs.Wrote.{IsReadAs}
 use Rattle.print_updates.proofs.Together.{all_new, IsRead, together}

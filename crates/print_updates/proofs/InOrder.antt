@@ -19,7 +19,7 @@ use Rattle.cub_proto.proofs.Targets.{target_is}
 use Rattle.cub_names.specs.declared.fault.TypeKind.TheVariants as kinds
 use Rattle.cub_names.specs.Checked.{fault}
 use Rattle.cub_types.specs.declared.written.Written.{Written}
-use Rattle.cub_types.specs.Joined.{is_for, branches_of, branches_for, last_of, update_from, update_at, targets, updates_of, branch_count, over_from, long_at, long_faults, is_refused_case}
+use Rattle.cub_types.specs.Joined.{is_for, branches_of, branches_for, last_of, update_from, update_at, targets, updates_of, branch_count, over_from, long_faults, is_refused_case}
 use Rattle.print_words.proofs.Seams.{Every}
 use Rattle.print_updates.proofs.Wrote.{IsReadAs, before_differs, after_differs, before_further, is_for_is, own_branches, own_last, own_count}
 

@@ -1,6 +1,6 @@
 -- Printed updates one behind the other: each is kept, no part is refused, and no fault stands.
 use Rattle.std.proofs.Common.{◌≡◌, ℕ, ◌+◌, ◌<◌, ◌≤◌, Bool, true, false, List, [], ◌∷◌, ◌++◌, length, map, Option, Some, None, refl, sym, ap, subst, ◌∙◌, arith, cond, append_assoc}
-use Rattle.std.specs.Prelude.{◌&&◌, ◌||◌, ◌==◌, not, nat_lt, if◌then◌else◌, count_by}
+use Rattle.std.specs.Prelude.{◌&&◌, ◌||◌, not, nat_lt, if◌then◌else◌, count_by}
 use Rattle.std.specs.List.{AllZip, list_all, list_any}
 use Rattle.std.proofs.lemmas.List.{append-nil, length-append}
 use Rattle.std.proofs.lemmas.List.Folds.{list_any-append}
@@ -18,7 +18,7 @@ use Rattle.cub_names.specs.Checked.{fault, has_value}
 use Rattle.cub_names.specs.Meaning.{Frame}
 use Rattle.cub_types.specs.declared.written.Written.{Written}
 use Rattle.cub_types.specs.declared.updating.Updating.{Updating}
-use Rattle.cub_types.specs.Writes.{written, written_faults, is_whole}
+use Rattle.cub_types.specs.Writes.{written, written_faults}
 use Rattle.cub_types.specs.Joined.{clash, clashes, is_again, keeps, again_faults, is_among, takes, taker_of, taker_faults, joined, updating, updating_faults}
 use Rattle.print_words.proofs.Seams.{Every}
 use Rattle.print_transitions.proofs.UpdatesRead.{aimed}

@@ -1,6 +1,6 @@
 -- What a printed update is read as, and what the list of a target takes from it.
-use Rattle.std.proofs.Common.{◌≡◌, ℕ, ◌+◌, ◌<◌, ◌≤◌, Bool, true, false, List, [], ◌∷◌, ◌++◌, length, map, Option, Some, None, refl, sym, ap, subst, ◌∙◌, arith, cond}
-use Rattle.std.specs.Prelude.{◌&&◌, ◌||◌, ◌==◌, nat_lt, unwrap_or, flat_map, if◌then◌else◌}
+use Rattle.std.proofs.Common.{◌≡◌, ℕ, ◌<◌, ◌≤◌, Bool, true, false, List, [], ◌∷◌, ◌++◌, length, map, Option, Some, None, refl, sym, ap, subst, ◌∙◌, arith, cond}
+use Rattle.std.specs.Prelude.{◌&&◌, ◌==◌, nat_lt, unwrap_or, flat_map}
 use Rattle.std.specs.List.{list_all}
 use Rattle.std.proofs.lemmas.List.{append-nil}
 use Rattle.std.proofs.lemmas.Bool.Decides.{nat_tests}
@@ -16,11 +16,9 @@ use Rattle.cub_proto.specs.Signature.{Signature, is_sort, same_sort, target_sort
 use Rattle.cub_proto.specs.Effect.{same_target}
 use Rattle.cub_proto.specs.Fits.{takes_any, picks_process, target_before}
 use Rattle.cub_names.specs.Checked.{has_value}
-use Rattle.cub_types.specs.declared.written.Aim.{Aim}
-use Rattle.cub_types.specs.declared.written.Case.{Case}
 use Rattle.cub_types.specs.declared.written.Written.{Written}
 use Rattle.cub_types.specs.Writes.{is_whole_case, is_whole}
-use Rattle.cub_types.specs.Joined.{taker, taker_of, is_aimed, is_for, first_literals, case_branches, last_branches, branches_of, last_of, cases_count, branch_count}
+use Rattle.cub_types.specs.Joined.{taker, taker_of, is_aimed, is_for, first_literals, case_branches, branches_of, last_of, cases_count, branch_count}
 use Rattle.print_transitions.proofs.UpdatesRead.{aimed, case_made}
 
 -- the update is read as what it was printed from, and is short enough

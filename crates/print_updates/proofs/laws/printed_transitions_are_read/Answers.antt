@@ -1,18 +1,15 @@
-use Rattle.std.proofs.Common.{◌≡◌, List, [], ◌∷◌, ◌++◌, length, drop, ap, sym, refl, subst, ◌∙◌}
+use Rattle.std.proofs.Common.{◌≡◌, ◌++◌, drop, ap, ◌∙◌}
 use Rattle.std.specs.Prelude.{IsTrue, ◌&&◌, flat_map}
-use Rattle.std.specs.List.{AllZip, list_all}
+use Rattle.std.specs.List.{list_all}
 use Rattle.cub_base.proofs.Bools.{and_right}
 use Rattle.cub_base.proofs.Elements.{from_all}
-use Rattle.cub_parse.specs.declared.tree.RestNode.{RestNode}
-use Rattle.cub_names.specs.Checked.{sound}
 use Rattle.cub_names.specs.Meaning.{Frame}
 use Rattle.cub_types.specs.Typing.{transitions_of}
 use Rattle.cub_proto.specs.Fits.{transition_fits}
 use Rattle.cub_proto.specs.StateOf.{signature_of}
-use Rattle.cub_print.specs.Mark.{Mark}
 use Rattle.cub_print.specs.Printed.{goal_marks, init_marks, type_marks, global_marks, array_marks, transition_marks}
-use Rattle.print_laws.specs.Spot.{Spot, first, past, in_row}
-use Rattle.print_laws.specs.Tree.{goal_tree, transition_tree, tree_of}
+use Rattle.print_laws.specs.Spot.{first, past, in_row}
+use Rattle.print_laws.specs.Tree.{transition_tree, tree_of}
 use Rattle.print_words.specs.Writable.{is_writable_formula, is_writable_conjunction, is_writable_transition}
 use Rattle.print_names.specs.Declaring.{text_of}
 use Rattle.print_names.proofs.Positions.{at_right}
