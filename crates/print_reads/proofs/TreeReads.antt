@@ -7,7 +7,7 @@ use Rattle.cub_parse.specs.declared.tree.RestNode.{RestNode}
 use Rattle.cub_names.specs.declared.fault.Fault.{Fault}
 use Rattle.cub_names.specs.Checked.{Checked, sound}
 use Rattle.cub_types.specs.declared.reading.Rest.{Rest}
-use Rattle.cub_types.specs.Bodies.{start, goals_from}
+use Rattle.cub_types.specs.Bodies.{goals_from}
 use Rattle.cub_types.specs.Typing.{Reads, transition_name, transition_name_faults, transitions_of, rest_of, rest_typed, if_none}
 use Rattle.cub_proto.specs.declared.literal.Lit.{Lit}
 use Rattle.cub_proto.specs.declared.protocol.Goal.{Goal}
