@@ -67,7 +67,7 @@ module _ (frame : Frame) (scope : List Local) (params : ℕ) where
   all_written [] [] z = tt
   all_written [] (u ∷ us) z = absurd z
   all_written (n ∷ ns) [] z = absurd z
-  all_written (n ∷ ns) (u ∷ us) z = (z.0.as_, all_written ns us z.1)
+  all_written (n ∷ ns) (u ∷ us) z = (z.0.is, all_written ns us z.1)
 
   effect_is : (nodes : List UpdateNode) (t : Transition) → AllZip (IsRead frame scope params) nodes t.updates → targets_rise t.updates ≡ true
       → params + count_by (picks_process frame.sig) t.updates ≤ 3 → IsEffect frame scope params nodes t
@@ -85,11 +85,11 @@ module _ (frame : Frame) (scope : List Local) (params : ℕ) where
 -- ---- a transition whose parts are read as its own
 module _ (frame : Frame) (t : Transition) (name : Leaf) (names : List Leaf) (guard : Option BodyNode) (nodes : List UpdateNode)
     (head : IsHeadOf frame (rests.Transition name names guard nodes) t) (effect : IsEffectOf frame (rests.Transition name names guard nodes) t) where
-  abbrev P : ℕ
-  P = length (take 3 names)
+  abbrev count : ℕ
+  count = length (take 3 names)
 
-  abbrev all_ : Updating
-  all_ = updating frame (locals 3 names) P no_updates nodes
+  abbrev behind_all : Updating
+  behind_all = updating frame (locals 3 names) count no_updates nodes
 
   abbrev checked : Option Transition → List Fault → Checked Transition
   checked value faults = record { value = value; faults = faults }
@@ -97,22 +97,22 @@ module _ (frame : Frame) (t : Transition) (name : Leaf) (names : List Leaf) (gua
   abbrev with_parts : List ℕ → ℕ → List Update → Option Transition
   with_parts own params updates = Some (record { name = own; params = params; guard = t.guard; others = t.others; updates = updates })
 
-  guard_is : guard_of frame P (locals 3 names) guard ≡ sound (t.guard, t.others)
+  guard_is : guard_of frame count (locals 3 names) guard ≡ sound (t.guard, t.others)
   guard_is = ap (λ n. guard_of frame n (locals 3 names) guard) head.1 ∙ head.3
 
-  value_is : transition_from frame P name all_ (Some (t.guard, t.others)) ≡ Some t
+  value_is : transition_from frame count name behind_all (Some (t.guard, t.others)) ≡ Some t
   value_is =
-      ap (λ b. if b then with_parts (word_of frame.text name) P (updates_of frame.sig P all_.kept) else None) effect.whole
-      ∙ ap (λ own. with_parts own P (updates_of frame.sig P all_.kept)) head.0 ∙ ap (λ n. with_parts t.name n (updates_of frame.sig P all_.kept)) head.1 ∙ ap (λ us. with_parts t.name t.params us) effect.updates
+      ap (λ b. if b then with_parts (word_of frame.text name) count (updates_of frame.sig count behind_all.kept) else None) effect.whole
+      ∙ ap (λ own. with_parts own count (updates_of frame.sig count behind_all.kept)) head.0 ∙ ap (λ n. with_parts t.name n (updates_of frame.sig count behind_all.kept)) head.1 ∙ ap (λ us. with_parts t.name t.params us) effect.updates
 
   pub transition_is : transition frame name names guard nodes ≡ sound t
   transition_is =
-      let own = updating_faults frame (locals 3 names) P no_updates nodes in
-      let long = long_faults P all_.kept (targets frame.sig) in
-      ap (λ (g : Checked (List (List Lit) × List (List Lit))). checked (transition_from frame P name all_ g.value) (variable_faults frame 3 names ++ g.faults ++ own ++ long)) guard_is
-      ∙ ap (λ fs. checked (transition_from frame P name all_ (Some (t.guard, t.others))) (fs ++ [] ++ own ++ long)) head.2
-      ∙ ap (λ fs. checked (transition_from frame P name all_ (Some (t.guard, t.others))) ([] ++ [] ++ fs ++ long)) effect.faultless
-      ∙ ap (λ fs. checked (transition_from frame P name all_ (Some (t.guard, t.others))) ([] ++ [] ++ [] ++ fs)) effect.short
+      let own = updating_faults frame (locals 3 names) count no_updates nodes in
+      let long = long_faults count behind_all.kept (targets frame.sig) in
+      ap (λ (g : Checked (List (List Lit) × List (List Lit))). checked (transition_from frame count name behind_all g.value) (variable_faults frame 3 names ++ g.faults ++ own ++ long)) guard_is
+      ∙ ap (λ fs. checked (transition_from frame count name behind_all (Some (t.guard, t.others))) (fs ++ [] ++ own ++ long)) head.2
+      ∙ ap (λ fs. checked (transition_from frame count name behind_all (Some (t.guard, t.others))) ([] ++ [] ++ fs ++ long)) effect.faultless
+      ∙ ap (λ fs. checked (transition_from frame count name behind_all (Some (t.guard, t.others))) ([] ++ [] ++ [] ++ fs)) effect.short
       ∙ ap (λ value. checked value []) value_is
 
 node_is : (frame : Frame) (node : RestNode) (t : Transition) → IsHeadOf frame node t → IsEffectOf frame node t → transition_at frame node ≡ sound (t ∷ [])
@@ -165,7 +165,7 @@ module _ (p : Protocol) (plain : IsTrue (declares_plain_names p)) (text : List �
         let found = update_read p plain text params ls few words u h.0 h.1 h.2 s at in
         let is = found.is_written in
         record {
-          as_ = record { sort = is.sort; sorted = is.sorted; aim = is.aim; cases = is.cases; last = is.last; marked = is.marked; short = short_enough u h.0 };
+          is = record { sort = is.sort; sorted = is.sorted; aim = is.aim; cases = is.cases; last = is.last; marked = is.marked; short = short_enough u h.0 };
           faultless = found.faultless;
         }
 

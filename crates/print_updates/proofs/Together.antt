@@ -77,11 +77,11 @@ no_taker_fault params taken (Some f) few = by (is_among taken f.0) (nat_lt 3 (pa
 
 -- ---- all of them
 module _ (frame : Frame) (scope : List Local) (params : ℕ) where
-  abbrev W : UpdateNode → Written
-  W n = written frame scope params n
+  abbrev write : UpdateNode → Written
+  write n = written frame scope params n
 
   pub record IsRead (n : UpdateNode) (u : Update) : Type 0 where
-    pub as_ : IsReadAs frame.sig (written frame scope params n) u
+    pub is : IsReadAs frame.sig (written frame scope params n) u
     pub faultless : written_faults frame scope params n ≡ []
 
   pub record AreTogether (so_far : Updating) (nodes : List UpdateNode) : Type 0 where
@@ -95,8 +95,8 @@ module _ (frame : Frame) (scope : List Local) (params : ℕ) where
   together [] (u ∷ us) z rise so_far new few = absurd z
   together (n ∷ ns) [] z rise so_far new few = absurd z
   together (n ∷ ns) (u ∷ us) z rise so_far new few =
-      let w = W n in
-      let is = z.0.as_ in
+      let w = write n in
+      let is = z.0.is in
       let found = taker_of w in
       let next = joined so_far w in
       let behind = list_all (λ v. target_before u.target v.target) us in
@@ -111,7 +111,7 @@ module _ (frame : Frame) (scope : List Local) (params : ℕ) where
       (omega (arith, few, count, picks, few_taken so_far.taken found)) in
       let none : taker_faults params so_far.taken found ≡ [] = no_taker_fault params so_far.taken found (omega (arith, few, count, picks)) in
       record {
-        kept = later.kept ∙ ap (λ kept. kept ++ map W ns) is_kept ∙ append_assoc so_far.kept (w ∷ []) (map W ns);
+        kept = later.kept ∙ ap (λ kept. kept ++ map write ns) is_kept ∙ append_assoc so_far.kept (w ∷ []) (map write ns);
         whole = later.whole ∙ ap (λ b. so_far.whole && b) (nothing_refused frame.sig params w u is) ∙ and_true so_far.whole;
         faultless =
             ap (λ fs. (fs ++ (again_faults so_far.kept w ++ taker_faults params so_far.taken found)) ++ updating_faults frame scope params next ns) z.0.faultless
