@@ -1,0 +1,9 @@
+pub mod Masks
+pub mod Literals
+pub mod FormulasMeet
+pub mod GuardsMeet
+pub mod BodiesMeet
+pub mod UpdatesMeet
+pub mod TransitionsMeet
+pub mod NamesMeet
+pub mod WholeMeets
