@@ -1,9 +1,8 @@
 pub mod Masks
 pub mod Literals
+pub mod Asked
 pub mod FormulasMeet
 pub mod GuardsMeet
 pub mod BodiesMeet
-pub mod UpdatesMeet
-pub mod TransitionsMeet
 pub mod NamesMeet
-pub mod WholeMeets
+pub mod ReadRest

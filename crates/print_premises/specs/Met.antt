@@ -1,16 +1,10 @@
--- What every protocol that some text reads as meets.
+-- What every protocol that some text reads as meets: its declarations, its start formula and its goals.
 use Rattle.std.specs.Prelude.{ℕ, List, IsTrue}
 use Rattle.cub_parse.specs.declared.tree.Syntax.{Syntax}
 use Rattle.cub_proto.specs.declared.protocol.Protocol.{Protocol}
 use Rattle.cub_types.specs.Typing.{Reads}
-use Rattle.print_words.specs.Writable.{is_writable}
 use Rattle.print_names.specs.Plain.{declares_plain_names}
 use Rattle.print_formulas.specs.Normal.{has_normal_bodies}
-use Rattle.print_transitions.specs.Normal.{has_normal_guards}
-
--- each of its literals can be written
-abbrev pub LiteralsAreWritable : Type 0
-LiteralsAreWritable = (text : List ℕ) (tree : Syntax) (p : Protocol) → Reads text tree p → IsTrue (is_writable p)
 
 -- no name that it declares begins with `_`
 abbrev pub NamesArePlain : Type 0
@@ -19,7 +13,3 @@ NamesArePlain = (text : List ℕ) (tree : Syntax) (p : Protocol) → Reads text 
 -- its start formula and its goals have the literals of normal forms alone
 abbrev pub BodiesAreNormal : Type 0
 BodiesAreNormal = (text : List ℕ) (tree : Syntax) (p : Protocol) → Reads text tree p → IsTrue (has_normal_bodies p)
-
--- and so have its guards
-abbrev pub GuardsAreNormal : Type 0
-GuardsAreNormal = (text : List ℕ) (tree : Syntax) (p : Protocol) → Reads text tree p → IsTrue (has_normal_guards p)

@@ -1,5 +1,5 @@
-//! Every protocol that some text reads as meets the premises of the laws of printing. Definitions and laws alone; the laws are the
-//! contracts of calls that do nothing.
+//! Every protocol that some text reads as meets the premises of the laws of printing, as far as they speak of its declarations,
+//! its start formula and its goals. Definitions and laws alone; the laws are the contracts of calls that do nothing.
 #![tactic(auto)]
 
 mod laws;

@@ -33,7 +33,7 @@ use Rattle.print_premises.proofs.Literals.{are_textual, ready_all}
 use Rattle.print_premises.proofs.FormulasMeet.{frame}
 use Rattle.print_premises.proofs.GuardsMeet.{AreReady, SplitReady, whole_ready}
 use Rattle.print_premises.proofs.BodiesMeet.{normal_textual}
-use Rattle.print_premises.proofs.UpdatesMeet.{is_textual_update, WroteTextual, kept_textual, updates_textual}
+use Rattle.update_premises.proofs.UpdatesMeet.{is_textual_update, WroteTextual, kept_textual, updates_textual}
 
 abbrev Lists : Type 0
 Lists = List (List Lit) × List (List Lit)
