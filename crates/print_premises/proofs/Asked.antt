@@ -1,5 +1,5 @@
 -- What the laws of printing ask of literals holds of literals of texts.
-use Rattle.std.proofs.Common.{◌≡◌, Bool, true, List}
+use Rattle.std.proofs.Common.{◌≡◌, true, List}
 use Rattle.std.specs.List.{list_all}
 use Rattle.cub_base.proofs.Bools.{and_left, and_right}
 use Rattle.cub_base.proofs.Conjunctions.{list_all_weaker}

@@ -1,6 +1,6 @@
 -- Each formula of a text has literals of texts alone, in whatever scope it stands.
 use Rattle.std.proofs.Common.{◌≡◌, ℕ, suc, ◌+◌, ◌^◌, ℤ, pos, ◌-ℤ◌, Bool, true, false, List, [], ◌∷◌, map, Option, Some, None, option_map, refl, sym, ap, ◌∙◌, subst, arith, nat_lt, nat_le}
-use Rattle.std.specs.Prelude.{if◌then◌else◌, IfSome, ◌&&◌, not, ◌==◌, unsigned_abs, int_le, int_lt}
+use Rattle.std.specs.Prelude.{if◌then◌else◌, IfSome, ◌&&◌, not, ◌==◌, unsigned_abs, int_le}
 use Rattle.std.specs.List.{list_all}
 use Rattle.std.specs.Option.{option_map_or}
 use Rattle.std.specs.Ordering.{int_eq}

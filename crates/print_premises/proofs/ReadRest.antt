@@ -1,6 +1,5 @@
 -- What stands behind the declarations of a text, read as the parts of its protocol.
 use Rattle.std.proofs.Common.{◌≡◌, ℕ, true, List, [], ◌∷◌, Option, Some, None, refl, sym, ap, ◌∙◌, subst}
-use Rattle.std.specs.Prelude.{◌&&◌}
 use Rattle.std.specs.List.{list_all}
 use Rattle.cub_base.proofs.Bools.{and_both}
 use Rattle.cub_base.proofs.Conjunctions.{list_all_weaker}
