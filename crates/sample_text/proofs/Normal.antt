@@ -15,7 +15,7 @@ use Rattle.print_updates.specs.Normal.{has_normal_effect, has_normal_updates}
 use Rattle.print_reads.specs.Normal.{has_plain_transition_names, is_normal_protocol}
 use Rattle.print_premises.proofs.Asked.{writable_conjunction, normal_conjunction, writable_formula, normal_formula}
 use Rattle.print_premises.proofs.Literals.{is_textual, are_textual}
-use Rattle.sample_gen.specs.Sample.{IsSample, level_name, sorts, arrays, is_on, is_not_on, start, goals, step, transitions}
+use Rattle.sample_gen.specs.Sample.{IsSample, level_name, sorts, is_on, is_not_on, step}
 use Rattle.sample_text.proofs.Literals.{on_textual, one_textual, other_textual}
 
 -- ---- names
@@ -28,7 +28,7 @@ plain_sorts top = rw (plain_levels 0 (top + 1)) refl
 
 module _ (top : ℕ) (p : Protocol) (low : 2 ≤ top) (sample : IsSample top p) where
   -- ---- steps
-  -- what a step passes whose level is below the highest and whose universal guard has literals of texts, each step passes
+  -- every step from a level below the highest passes the test, where its universal guard has literals of texts
   abbrev PassesSteps : (Transition → Bool) → Type 0
   PassesSteps test = (others : List (List Lit)) (from : ℕ) → from < top → list_all (are_textual p) others ≡ true → test (step others from) ≡ true
 
