@@ -22,8 +22,7 @@ const GREATEST_EXPANDED: u64 = 140000000000000;
 fn all_fit(protocol: &Protocol, width: u8, lits: &[Lit]) -> bool
     ensures { result ≡ list_all (literal_fits (signature_of protocol.now) width) lits.now }
 {
-    lits.iter()
-        .all(|lit| cub_proto::literal_fits(&protocol.declared(), u16::from(width), lit))
+    lits.iter().all(|lit| cub_proto::literal_fits(&protocol.declared(), u16::from(width), lit))
 }
 
 fn are_bounded(limit: u64, lits: &[Lit]) -> bool

@@ -59,8 +59,9 @@ fn judge<F: Finder<Scratch>>(
     if !is_expandable(protocol, cube) {
         return Err(Failed::Unfit);
     }
-    let verdict =
-        cube_core::judge::<Predecessors, Scratch, F>(alloc, scratch, protocol, finder, node, cube)?;
+    let verdict = cube_core::judge::<Predecessors, Scratch, F>(
+        alloc, scratch, protocol, finder, node, cube,
+    )?;
     push_count(out, verdicts.len() as u64)?;
     push(out, b" ")?;
     push_verdict(out, protocol, &verdict)?;

@@ -81,7 +81,9 @@ fn judge_log<F: Finder<Scratch>>(
     ensures kept { IsKept protocol.now (F.list finder.new) (F.serves finder.new protocol.now) verdicts.new.items log.new }
 {
     match log {
-        Some(log) => judge_by(alloc, judging, protocol, scratch, finder, log, verdicts, text, out),
+        Some(log) => judge_by(
+            alloc, judging, protocol, scratch, finder, log, verdicts, text, out,
+        ),
         None => Err(Failed::Unfit),
     }
 }
@@ -256,7 +258,14 @@ fn answer_all<F: Finder<Scratch>>(
     let mut verdicts = Vec::new(alloc);
     for row in rows {
         answer_line(
-            alloc, protocol, &mut scratch, finder, &mut log, &mut verdicts, row, out,
+            alloc,
+            protocol,
+            &mut scratch,
+            finder,
+            &mut log,
+            &mut verdicts,
+            row,
+            out,
         )?;
     }
     Ok(())

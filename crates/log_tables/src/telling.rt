@@ -92,10 +92,7 @@ pub fn push_mark(out: &mut Vec<u8>, mark: Mark) -> Result<(), AllocError> {
 }
 
 /// Appends the verdict of a log, or `none`.
-pub fn push_log_verdict(
-    out: &mut Vec<u8>,
-    verdict: Option<LogVerdict>,
-) -> Result<(), AllocError> {
+pub fn push_log_verdict(out: &mut Vec<u8>, verdict: Option<LogVerdict>) -> Result<(), AllocError> {
     match verdict {
         Some(LogVerdict::Unsafe) => push(out, b"unsafe"),
         Some(LogVerdict::UnknownCubes) => push(out, b"unknown cubes"),
