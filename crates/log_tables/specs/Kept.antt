@@ -1,5 +1,5 @@
 -- What a section keeps between its rows: a log with a finder, and judgements of its nodes.
-use Rattle.std.specs.Prelude.{◌≡◌, ◌×◌, List, Option, All, IfSome}
+use Rattle.std.specs.Prelude.{◌≡◌, List, Option, All, IfSome}
 use Rattle.cub_proto.specs.declared.protocol.Protocol.{Protocol}
 use Rattle.cub_cube.specs.declared.cube.Cube.{Cube}
 use Rattle.log_form.specs.Log.{LogValue, cubes_of}

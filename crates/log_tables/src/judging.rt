@@ -1,7 +1,7 @@
 //! Rows on judgements: `judge NODE` keeps what it finds under the next number, and `apply NUMBER` commits it, once, to the
 //! log as it then stands.
 
-ghost use Rattle.std.specs.Prelude.{◌≡◌, ◌×◌, IfSome};
+ghost use Rattle.std.specs.Prelude.{◌≡◌, IfSome};
 ghost use Rattle.theory.specs.Made.{IsFor};
 ghost use Rattle.log_form.specs.Log.{LogValue};
 ghost use Rattle.cube_form.specs.Form.{IsGivenForm};
