@@ -1,5 +1,5 @@
 -- Searches in parts: what the parts find is what the whole finds, and their tests add up.
-use Rattle.std.proofs.Common.{◌≡◌, ℕ, zero, suc, ◌+◌, ◌<◌, ◌≤◌, List, length, Option, Some, None, inl, inr, get_or, map, sym, ap, ◌∙◌, subst, zero-add, arith}
+use Rattle.std.proofs.Common.{◌≡◌, ℕ, zero, suc, ◌+◌, ◌<◌, ◌≤◌, List, length, Option, Some, None, inl, inr, sym, subst, zero-add, arith}
 use Rattle.std.proofs.lemmas.Bool.{cases_lt, cases_eq}
 use Rattle.cub_proto.specs.declared.protocol.Protocol.{Protocol}
 use Rattle.cub_cube.specs.declared.cube.Cube.{Cube}
@@ -7,10 +7,7 @@ use Rattle.cub_cube.specs.Cover.{DoesCover, IsCovered}
 use Rattle.std.specs.Prelude.{All, slice_index, IfNone}
 use Rattle.cub_cube.specs.Meaning.{IsConsistent}
 use Rattle.subsume.proofs.Retiring.{cube_member}
-use Rattle.std.proofs.lemmas.List.{get_or-map}
-use Rattle.subsume.specs.declared.summary.Summary.{Summary}
-use Rattle.subsume.specs.Summary.{filled}
-use Rattle.cover_index.specs.Asked.{AreMet, summary_at}
+use Rattle.cover_index.specs.Asked.{AreMet}
 use Rattle.log_form.specs.Pieces.{IsAskable}
 use Rattle.log_form.specs.Links.{Link, no_cube, cube_at, IsFirstCover, IsFirstUnder}
 use Rattle.cover_index.specs.Counted.{AtLeast, RisesIf, RisesFor}
@@ -98,6 +95,13 @@ none_live_more P R from at before here i low high free = elim (cases_eq i at) [
   | inr other ↦ before i low (omega arith) free
 ]
 
+-- none before, and none of what is passed over
+pub none_live_passed : (P R : ℕ → Type 0) (from at mid : ℕ) → ((i : ℕ) → from ≤ i → i < at → R i → P i → ⊥) → ((i : ℕ) → at ≤ i → i < mid → P i → ⊥) → (i : ℕ) → from ≤ i → i < mid → R i → P i → ⊥
+none_live_passed P R from at mid before passed i low high free = elim (cases_lt i at) [
+  | inl less ↦ before i low less free
+  | inr more ↦ passed i more high
+]
+
 -- a cube of the list covers the given one
 pub covered_by : (p : Protocol) (cubes : List Cube) (c : Cube) (i : ℕ) → i < length cubes → DoesCover p (cube_at cubes i) c → IsCovered p cubes c
 covered_by p cubes c i below covers = (cube_at cubes i, cube_member cubes i below, covers)
@@ -114,11 +118,7 @@ none_live_part P retired at mid end before passed searched i high free = elim (c
   ]
 ]
 
--- a word that is kept apart is that of the summary
-pub key_is : (f : Summary → ℕ) (keys : List ℕ) (summaries : List Summary) (i : ℕ) → keys ≡ map f summaries → i < length summaries → get_or keys i 0 ≡ f (summary_at summaries i)
-key_is f keys summaries i are below = ap (λ ks. get_or ks i 0) are ∙ get_or-map f summaries i (record { needs = filled 0; offers = filled 0 }) 0 below
-
--- the same from a number on
+-- none before, none of what is passed over, and none of the part that is looked at, from a number on
 pub none_live_further : (P : ℕ → Type 0) (retired : List ℕ) (start at mid end : ℕ) → ((i : ℕ) → start ≤ i → i < at → slice_index retired i ≡ 0 → P i → ⊥)
     → ((i : ℕ) → at ≤ i → i < mid → P i → ⊥) → ((i : ℕ) → mid ≤ i → i < end → slice_index retired i ≡ 0 → P i → ⊥)
     → (i : ℕ) → start ≤ i → i < end → slice_index retired i ≡ 0 → P i → ⊥

@@ -1,5 +1,6 @@
 pub mod Counted
 pub mod Asked
+pub mod Columns
 pub mod Indexed
 pub mod Sealed
 pub mod Stored

@@ -7,16 +7,33 @@ ghost use Rattle.log_form.specs.Links.{cube_at, IsFirstCover};
 ghost use Rattle.subsume.specs.Summary.{IsSummary, IsCandidate};
 ghost use Rattle.cover_index.specs.Counted.{RisesIf, RisesForCovers};
 ghost use Rattle.cover_index.specs.Asked.{IsAsked, AreSummedTo};
+ghost use Rattle.cover_index.specs.Columns.{AreFilled, NeedsMore, lacks};
+ghost use Rattle.cub_proto.specs.Truth.{has_bit};
+ghost use Rattle.subsume.specs.declared.summary.Summary.{Summary};
 
-use crate::candidates::{covers_asked, keys_pass};
-use crate::summaries::{Summaries, offers_key};
+use crate::candidates::covers_asked;
+use crate::columns::{met, next_beyond};
+use crate::summaries::Summaries;
 use cub_base::Places;
 use cub_cube::Cube;
 use cub_proto::Protocol;
 use subsume::Summary;
 use theory::Scratch;
 
-/// The first cube from one number up to another that covers the loaded one.
+// The cubes that need a mark which the loaded cube does not offer, where some state meets it. Without that nothing is passed
+// over, since a cube that no state meets is covered whatever it offers.
+fn told_apart(consistent: bool, summaries: &Summaries, lacking: &[u64]) -> u64
+    requires { length lacking.now ≡ 64 }
+    ensures { (own : Summary) → AreFilled lacking.now (lacks own) → (i : ℕ) → i < length summaries.now → IsTrue (has_bit result i) → IsTrue consistent × NeedsMore summaries.now i own }
+{
+    if !consistent {
+        return 0;
+    }
+    met(summaries.needs(), lacking)
+}
+
+/// The first cube from one number up to another that covers the loaded one. The words of `lacking` are filled for the marks
+/// that it does not offer.
 pub(crate) fn first_among(
     scratch: &mut Scratch,
     protocol: &Protocol,
@@ -26,20 +43,24 @@ pub(crate) fn first_among(
     upto: u32,
     cube: &Cube,
     own: &Summary,
+    lacking: &[u64],
     consistent: bool,
 ) -> Option<(u32, Places)>
     requires asked { IsAsked protocol.now cube.now own.now consistent scratch.old }
+    requires lacking { AreFilled lacking.now (lacks own.now) }
     requires summed { AreSummedTo protocol.now upto cubes.now summaries.now }
+    requires few { upto ≤ 64 }
     ensures asked { IsAsked protocol.now cube.now own.now consistent scratch.new }
     ensures first { IsFirstCover protocol.now cubes.now from upto cube.now result }
     ensures tests { RisesForCovers protocol.now cubes.now from upto cube.now scratch.old.tests scratch.new.tests }
 {
     let all = summaries.as_slice();
-    let needs = summaries.needs();
-    let offered = offers_key(own);
-    for i in from..upto {
-        if keys_pass(consistent, needs[i as usize], offered) {
-            continue;
+    let apart = told_apart(consistent, summaries, lacking);
+    let mut at = from;
+    while at < upto {
+        let i = next_beyond(apart, at, upto);
+        if i == upto {
+            return None;
         }
         let big = &cubes[i as usize];
         let summary = &all[i as usize];
@@ -47,6 +68,7 @@ pub(crate) fn first_among(
             Some(places) => return Some((i, places)),
             None => {}
         }
+        at = i + 1;
     }
     None
 }
@@ -92,9 +114,12 @@ pub(crate) fn some_among(
     upto: u32,
     cube: &Cube,
     own: &Summary,
+    lacking: &[u64],
     consistent: bool,
 ) -> bool
     requires asked { IsAsked protocol.now cube.now own.now consistent scratch.old }
+    requires lacking { AreFilled lacking.now (lacks own.now) }
+    requires few { upto ≤ 64 }
     requires summed { AreSummedTo protocol.now upto cubes.now summaries.now }
     requires retired { base + upto ≤ length retired.now }
     ensures asked { IsAsked protocol.now cube.now own.now consistent scratch.new }
@@ -103,11 +128,12 @@ pub(crate) fn some_among(
     ensures tests { RisesForCovers protocol.now cubes.now from upto cube.now scratch.old.tests scratch.new.tests }
 {
     let all = summaries.as_slice();
-    let needs = summaries.needs();
-    let offered = offers_key(own);
-    for i in from..upto {
-        if keys_pass(consistent, needs[i as usize], offered) {
-            continue;
+    let apart = told_apart(consistent, summaries, lacking);
+    let mut at = from;
+    while at < upto {
+        let i = next_beyond(apart, at, upto);
+        if i == upto {
+            return false;
         }
         let big = &cubes[i as usize];
         let summary = &all[i as usize];
@@ -115,6 +141,7 @@ pub(crate) fn some_among(
         if covers_live(scratch, protocol, big, summary, by, cube, own, consistent) {
             return true;
         }
+        at = i + 1;
     }
     false
 }

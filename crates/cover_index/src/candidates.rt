@@ -33,31 +33,6 @@ pub(crate) fn passes_over(met: bool, big: &Summary, small: &Summary) -> bool
     !may_cover(big, small)
 }
 
-// The bits of the first word that the second lacks.
-fn beyond(a: u64, b: u64) -> u64
-    ensures bits { (c : ℕ) → has_bit result c ≡ (has_bit a c && not (has_bit b c)) }
-    ensures fits { result < 2 ^ 64 }
-{
-    a & !b
-}
-
-// Whether each bit of the first word is one of the second.
-fn is_part(a: u64, b: u64) -> bool
-    ensures { IsTrue result ↔ IsPart a b }
-{
-    beyond(a, b) == 0
-}
-
-/// Whether that can be told by the words that are kept apart: what the first needs, and what the second offers.
-pub(crate) fn keys_pass(met: bool, needs: u64, offers: u64) -> bool
-    ensures { IsTrue result → (p : Protocol) (d c : Cube) (big small : Summary) → needs ≡ needs_key big → offers ≡ offers_key small → IsOf p d big → IsOf p c small → IsAskable p d → IsAskable p c → (IsTrue met → IsConsistent p c.width c.lits) → DoesCover p d c → ⊥ }
-{
-    if !met {
-        return false;
-    }
-    !is_part(needs, offers)
-}
-
 /// The least injection by which the big cube covers the loaded one.
 pub(crate) fn covers_asked(
     scratch: &mut Scratch,

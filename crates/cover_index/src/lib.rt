@@ -1,6 +1,9 @@
 //! Lists of cubes that are searched for covering by way of summaries.
 #![tactic(auto)]
 
+// Words turned round.
+mod columns;
+
 // Summaries of lists.
 mod summaries;
 

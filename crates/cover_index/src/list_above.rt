@@ -9,10 +9,12 @@ ghost use Rattle.subsume.specs.Scanned.{AreRetired};
 ghost use Rattle.subsume.specs.Summary.{IsOf};
 ghost use Rattle.cover_index.specs.Counted.{RisesForCovers};
 ghost use Rattle.cover_index.specs.Asked.{IsAsked, AreSummed, AreGrouped};
+ghost use Rattle.cover_index.specs.Columns.{AreFilled, lacks};
 
 use crate::above::{first_among, some_among};
 use crate::parts::{GROUP, next_above};
 use crate::store::Store;
+use crate::summaries::lacking;
 use cub_base::Places;
 use cub_cube::Cube;
 use cub_proto::Protocol;
@@ -28,9 +30,11 @@ fn first_in(
     upto: u32,
     cube: &Cube,
     own: &Summary,
+    lacking: &[u64],
     consistent: bool,
 ) -> Option<(u32, Places)>
     requires asked { IsAsked protocol.now cube.now own.now consistent scratch.old }
+    requires lacking { AreFilled lacking.now (lacks own.now) }
     requires summed { AreSummed protocol.now store.now.cubes store.now.summaries }
     requires order { from ≤ upto }
     requires within { upto ≤ length store.now.cubes }
@@ -54,6 +58,7 @@ fn first_in(
         upto - base,
         cube,
         own,
+        lacking,
         consistent,
     ) {
         Some((i, places)) => Some((base + i, places)),
@@ -83,12 +88,15 @@ pub(crate) fn first_cover(
     ensures tests { RisesForCovers protocol.now store.now.cubes start (length store.now.cubes) cube.now scratch.old.tests scratch.new.tests }
 {
     let own = Summary::of(protocol, cube);
+    let lacking = lacking(&own);
     let consistent = load_small(scratch, protocol, cube);
     let upto = store.count();
     let mut at = start;
     while at < upto {
         let (from, end) = next_above(groups, larger, at, upto, &own, consistent);
-        match first_in(scratch, protocol, store, from, end, cube, &own, consistent) {
+        match first_in(
+            scratch, protocol, store, from, end, cube, &own, &lacking, consistent,
+        ) {
             Some(found) => return Some(found),
             None => {}
         }
@@ -107,9 +115,11 @@ fn some_in(
     upto: u32,
     cube: &Cube,
     own: &Summary,
+    lacking: &[u64],
     consistent: bool,
 ) -> bool
     requires asked { IsAsked protocol.now cube.now own.now consistent scratch.old }
+    requires lacking { AreFilled lacking.now (lacks own.now) }
     requires summed { AreSummed protocol.now store.now.cubes store.now.summaries }
     requires one_each { length retired.now ≡ length store.now.cubes }
     requires order { from ≤ upto }
@@ -137,6 +147,7 @@ fn some_in(
         upto - base,
         cube,
         own,
+        lacking,
         consistent,
     )
 }
@@ -153,9 +164,11 @@ fn part_with_cover(
     upto: u32,
     cube: &Cube,
     own: &Summary,
+    lacking: &[u64],
     consistent: bool,
 ) -> Option<u32>
     requires asked { IsAsked protocol.now cube.now own.now consistent scratch.old }
+    requires lacking { AreFilled lacking.now (lacks own.now) }
     requires own { IsOf protocol.now cube.now own.now }
     requires summed { AreSummed protocol.now store.now.cubes store.now.summaries }
     requires groups { AreGrouped protocol.now 64 store.now.cubes groups.now }
@@ -174,7 +187,7 @@ fn part_with_cover(
     while at < upto {
         let (from, end) = next_above(groups, larger, at, upto, own, consistent);
         if some_in(
-            scratch, protocol, store, retired, from, end, cube, own, consistent,
+            scratch, protocol, store, retired, from, end, cube, own, lacking, consistent,
         ) {
             return Some(at);
         }
@@ -227,22 +240,26 @@ pub(crate) fn some_cover(
     ensures tests { RisesForCovers protocol.now store.now.cubes 0 (length store.now.cubes) cube.now scratch.old.tests scratch.new.tests }
 {
     let own = Summary::of(protocol, cube);
+    let lacking = lacking(&own);
     let consistent = load_small(scratch, protocol, cube);
     let upto = store.count();
     let (from, end) = group_of(last, upto);
     match part_with_cover(
-        scratch, protocol, store, groups, larger, retired, from, end, cube, &own, consistent,
+        scratch, protocol, store, groups, larger, retired, from, end, cube, &own, &lacking,
+        consistent,
     ) {
         Some(near) => return Some(near),
         None => {}
     }
     match part_with_cover(
-        scratch, protocol, store, groups, larger, retired, end, upto, cube, &own, consistent,
+        scratch, protocol, store, groups, larger, retired, end, upto, cube, &own, &lacking,
+        consistent,
     ) {
         Some(near) => return Some(near),
         None => {}
     }
     part_with_cover(
-        scratch, protocol, store, groups, larger, retired, 0, from, cube, &own, consistent,
+        scratch, protocol, store, groups, larger, retired, 0, from, cube, &own, &lacking,
+        consistent,
     )
 }

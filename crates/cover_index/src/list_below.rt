@@ -7,10 +7,12 @@ ghost use Rattle.theory.specs.Made.{IsFor};
 ghost use Rattle.subsume.specs.Summary.{IsSummary};
 ghost use Rattle.cover_index.specs.Counted.{RisesForUnder};
 ghost use Rattle.cover_index.specs.Asked.{AreSummed, AreGrouped, AreMet};
+ghost use Rattle.cover_index.specs.Columns.{AreFilled, needs};
 
 use crate::below::first_among;
 use crate::parts::{GROUP, next_below};
 use crate::store::Store;
+use crate::summaries::needing;
 use cub_base::Places;
 use cub_cube::Cube;
 use cub_proto::Protocol;
@@ -48,11 +50,13 @@ fn first_in(
     upto: u32,
     cube: &Cube,
     own: &Summary,
+    needing: &[u64],
     met: u32,
 ) -> Option<(u32, Places)>
     requires made { IsFor protocol.now scratch.old }
     requires fit { IsAskable protocol.now cube.now }
     requires own { IsSummary protocol.now cube.now own.now }
+    requires needing { AreFilled needing.now (needs own.now) }
     requires summed { AreSummed protocol.now store.now.cubes store.now.summaries }
     requires order { from ≤ upto }
     requires within { upto ≤ length store.now.cubes }
@@ -78,6 +82,7 @@ fn first_in(
         upto - base,
         cube,
         own,
+        needing,
         known,
     ) {
         Some((i, places)) => Some((base + i, places)),
@@ -110,11 +115,14 @@ pub(crate) fn first_under(
     ensures tests { RisesForUnder protocol.now store.now.cubes start (length store.now.cubes) cube.now scratch.old.tests scratch.new.tests }
 {
     let own = Summary::of(protocol, cube);
+    let needing = needing(&own);
     let upto = store.count();
     let mut at = start;
     while at < upto {
         let (from, end) = next_below(groups, larger, at, upto, &own, met);
-        match first_in(scratch, protocol, store, from, end, cube, &own, met) {
+        match first_in(
+            scratch, protocol, store, from, end, cube, &own, &needing, met,
+        ) {
             Some(found) => return Some(found),
             None => {}
         }

@@ -9,7 +9,7 @@ ghost use Rattle.cover_index.specs.Asked.{summary_at, AreSummed, AreMet, Joins};
 ghost use Rattle.cover_index.specs.Sealed.{IsSealedFor, no_segment};
 
 use crate::candidates::passes_over;
-use crate::summaries::Summaries;
+use crate::summaries::{Summaries, lacking, needing};
 use crate::{above, below};
 use cub_base::{Items, Memory, Places};
 use cub_cube::{Cube, Cubes};
@@ -43,7 +43,8 @@ impl Model for Segment {
 
 // The summary of each cube.
 fn summaries_of(alloc: Global, protocol: &Protocol, cubes: &[Cube]) -> Result<Summaries, Memory>
-    requires { All (IsAskable protocol.now) cubes.now }
+    requires askable { All (IsAskable protocol.now) cubes.now }
+    requires few { length cubes.now ≤ 64 }
     ensures { IfOk result (λ summaries. AreSummed protocol.now cubes.now summaries) }
 {
     let mut summaries = Summaries::new(alloc);
@@ -229,6 +230,7 @@ impl Segment {
             upto,
             cube,
             &own,
+            &lacking(&own),
             consistent,
         )
     }
@@ -263,6 +265,7 @@ impl Segment {
             upto,
             cube,
             &own,
+            &needing(&own),
             self.met,
         )
     }

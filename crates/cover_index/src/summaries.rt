@@ -1,90 +1,78 @@
-//! The summaries of a list of cubes. One word of each is kept apart too, side by side with those of the others: most pairs
-//! of cubes are told apart by the memberships in one constructor or by the values of integer terms, and a walk over many
-//! cubes then reads little.
+//! The summaries of up to 64 cubes. Of each, one word of what it needs and one of what it offers is kept apart too, turned round
+//! with those of the others: most pairs of cubes are told apart by the memberships in one constructor or by the values of
+//! integer terms, and a search finds in a few operations which cubes of a segment are left.
 
-ghost use Rattle.std.specs.Prelude.{◌≡◌, ◌∷◌, ◌++◌, [], map, take, OnOk, OnErr};
+ghost use Rattle.std.specs.Prelude.{◌≡◌, ◌∷◌, ◌++◌, ◌<◌, ◌≤◌, ℕ, [], length, take, not, OnOk, OnErr};
+ghost use Rattle.cub_proto.specs.Truth.{has_bit};
 ghost use Rattle.subsume.specs.declared.summary.Summary.{Summary};
 ghost use Rattle.cover_index.specs.Asked.{needs_key, offers_key};
+ghost use Rattle.cover_index.specs.Columns.{AreFilled, lacks, needs};
 
+use crate::columns::{beyond, filled, make, put};
 use cub_base::Memory;
 use std::alloc::Global;
 use std::marker::Model;
 use subsume::Summary;
 
-/// Summaries, with their keys.
+/// Summaries, with their words.
 #[derive(Drop)]
 pub(crate) struct Summaries {
     all: Vec<Summary>,
+    // what they need, and what they do not offer
     needs: Vec<u64>,
-    offers: Vec<u64>,
+    lacks: Vec<u64>,
 }
 
 impl Model for Summaries {
-    ghost use Rattle.std.specs.Prelude.{◌≡◌, List, map};
+    ghost use Rattle.std.specs.Prelude.{◌≤◌, List, length};
     ghost use Rattle.subsume.specs.declared.summary.Summary.{Summary};
-    ghost use Rattle.cover_index.specs.Asked.{needs_key, offers_key};
+    ghost use Rattle.cover_index.specs.Columns.{AreColumns, needs_mark, lacks_mark};
 
     ghost Value = { List Summary };
 
     ghost view = { λ s. s.all.items };
 
-    ghost invariant = { λ s. (s.needs.items ≡ map needs_key s.all.items) × (s.offers.items ≡ map offers_key s.all.items) };
+    ghost invariant = { λ s. (length s.needs.items ≤ 64) × (length s.lacks.items ≤ 64) × AreColumns s.needs.items (length s.all.items) (needs_mark s.all.items) × AreColumns s.lacks.items (length s.all.items) (lacks_mark s.all.items) };
 }
 
-/// The word of what the cubes need that is kept apart.
-pub(crate) fn needs_key(summary: &Summary) -> u64
+// The word of what the cubes need that is kept apart.
+fn needs_key(summary: &Summary) -> u64
     ensures { result ≡ needs_key summary.now }
 {
     summary.needs.constructors | summary.needs.values
 }
 
-/// The word of what they offer.
-pub(crate) fn offers_key(summary: &Summary) -> u64
+// The word of what they offer.
+fn offers_key(summary: &Summary) -> u64
     ensures { result ≡ offers_key summary.now }
 {
     summary.offers.constructors | summary.offers.values
 }
 
-// Appends an item to each list, or to none.
-fn push_all(
-    all: &mut Vec<Summary>,
-    needs: &mut Vec<u64>,
-    offers: &mut Vec<u64>,
-    own: &Summary,
-) -> Result<(), Memory>
-    ensures all_ok { OnOk result (all.new.items ≡ all.old.items ++ own.now ∷ []) }
-    ensures needs_ok { OnOk result (needs.new.items ≡ needs.old.items ++ needs_key own.now ∷ []) }
-    ensures offers_ok { OnOk result (offers.new.items ≡ offers.old.items ++ offers_key own.now ∷ []) }
-    ensures all_err { OnErr result (all.new.items ≡ all.old.items) }
-    ensures needs_err { OnErr result (needs.new.items ≡ needs.old.items) }
-    ensures offers_err { OnErr result (offers.new.items ≡ offers.old.items) }
+// The word of what they do not offer.
+fn lacks_key(summary: &Summary) -> u64
+    ensures { (b : ℕ) → b < 64 → has_bit result b ≡ not (has_bit (offers_key summary.now) b) }
 {
-    let all_count = all.len();
-    let needs_count = needs.len();
-    match all.push(*own) {
-        Ok(()) => {}
-        Err(_) => return Err(Memory),
-    }
-    match needs.push(needs_key(own)) {
-        Ok(()) => {}
-        Err(_) => {
-            all.truncate(all_count);
-            return Err(Memory);
-        }
-    }
-    match offers.push(offers_key(own)) {
-        Ok(()) => Ok(()),
-        Err(_) => {
-            all.truncate(all_count);
-            needs.truncate(needs_count);
-            Err(Memory)
-        }
-    }
+    beyond(u64::MAX, offers_key(summary))
+}
+
+/// A word for each mark, filled where the cube does not offer it.
+pub(crate) fn lacking(own: &Summary) -> [u64; 64]
+    ensures { AreFilled result (lacks own.now) }
+{
+    filled(lacks_key(own))
+}
+
+/// A word for each mark, filled where the cube needs it.
+pub(crate) fn needing(own: &Summary) -> [u64; 64]
+    ensures { AreFilled result (needs own.now) }
+{
+    filled(needs_key(own))
 }
 
 impl Summaries {
-    ghost use Rattle.std.specs.Prelude.{◌≡◌, ◌∷◌, ◌++◌, [], map, take, OnOk, OnErr};
-    ghost use Rattle.cover_index.specs.Asked.{needs_key, offers_key};
+    ghost use Rattle.std.specs.Prelude.{◌≡◌, ◌∷◌, ◌++◌, ◌<◌, ◌≤◌, [], length, take, OnOk, OnErr};
+    ghost use Rattle.cover_index.specs.Columns.{AreColumns, needs_mark, lacks_mark};
 
     /// No summaries.
     pub(crate) fn new(alloc: Global) -> Summaries
@@ -93,7 +81,7 @@ impl Summaries {
         Summaries {
             all: Vec::new(alloc),
             needs: Vec::new(alloc),
-            offers: Vec::new(alloc),
+            lacks: Vec::new(alloc),
         }
     }
 
@@ -106,26 +94,36 @@ impl Summaries {
 
     /// What the cubes need, by the words that are kept apart.
     pub(crate) fn needs(&self) -> &[u64]
-        ensures { result.now ≡ map needs_key self.now }
+        ensures few { length result.now ≤ 64 }
+        ensures turned { AreColumns result.now (length self.now) (needs_mark self.now) }
     {
         self.needs.as_slice()
     }
 
-    /// What the cubes offer, by the words that are kept apart.
-    pub(crate) fn offers(&self) -> &[u64]
-        ensures { result.now ≡ map offers_key self.now }
+    /// What the cubes do not offer, by the words that are kept apart.
+    pub(crate) fn lacks(&self) -> &[u64]
+        ensures few { length result.now ≤ 64 }
+        ensures turned { AreColumns result.now (length self.now) (lacks_mark self.now) }
     {
-        self.offers.as_slice()
+        self.lacks.as_slice()
     }
 
     /// Appends a summary.
     pub(crate) fn push(&mut self, own: &Summary) -> Result<(), Memory>
+        requires { length self.old < 64 }
         ensures ok { OnOk result (self.new ≡ self.old ++ own.now ∷ []) }
         ensures err { OnErr result (self.new ≡ self.old) }
     {
-        match push_all(&mut self.all, &mut self.needs, &mut self.offers, own) {
-            Ok(()) => Ok(()),
-            Err(memory) => Err(memory),
+        make(&mut self.needs)?;
+        make(&mut self.lacks)?;
+        let at = self.all.len() as u32;
+        match self.all.push(*own) {
+            Ok(()) => {
+                put(&mut self.needs, at, needs_key(own));
+                put(&mut self.lacks, at, lacks_key(own));
+                Ok(())
+            }
+            Err(_) => Err(Memory),
         }
     }
 
@@ -134,7 +132,5 @@ impl Summaries {
         ensures { self.new ≡ take len self.old }
     {
         self.all.truncate(len);
-        self.needs.truncate(len);
-        self.offers.truncate(len);
     }
 }

@@ -1,5 +1,6 @@
-use Rattle.std.proofs.Common.{◌≡◌, ◌<◌, ◌+◌, ℕ, List, length, refl, Some, None, sym, subst, arith}
-use Rattle.std.proofs.lemmas.Bool.{ltb-true}
+use Rattle.std.proofs.Common.{◌≡◌, ◌<◌, ◌≤◌, ◌+◌, ℕ, List, length, Some, None, sym, subst, arith}
+use Rattle.std.specs.Prelude.{nat_le}
+use Rattle.std.proofs.lemmas.Bool.{ltb-true, leb-true}
 use Rattle.cub_cube.specs.declared.cube.Cube.{Cube}
 use Rattle.cub_cube.specs.Meaning.{IsConsistent}
 use Rattle.cub_cube.specs.Cover.{DoesCover, CoversLeast}
@@ -7,87 +8,97 @@ use Rattle.log_form.specs.Pieces.{IsAskable}
 use Rattle.log_form.specs.Links.{cube_at}
 use Rattle.subsume.specs.Summary.{IsSummary, IsCandidate}
 use Rattle.subsume.specs.declared.summary.Summary.{Summary}
-use Rattle.subsume.proofs.Summarized.{own_summary}
 use Rattle.subsume.proofs.Retiring.{cube_read}
 use Rattle.cover_index.specs.Counted.{RisesIf}
-use Rattle.cover_index.specs.Asked.{summary_at, offers_key}
-use Rattle.cover_index.proofs.Searching.{rises_one, rises_none, rises_from, under_further, none_one, key_is}
+use Rattle.cover_index.specs.Asked.{summary_at}
+use Rattle.cover_index.proofs.Searching.{rises_one, rises_none, rises_from, under_further, none_one, none_further}
+use Rattle.cover_index.proofs.Columned.{none_below}
 use Rattle.cover_index.proofs.below.first_among.Goals as goal
 
 pub covers_listed-requires-clause-small_fit : goal.covers_listed-requires-clause-small_fit
 covers_listed-requires-clause-small_fit c =
-    let i = c.loop-i.i in
+    let i = c.next_beyond-i.result in
     let below : i < length c.args.cubes.now = omega (arith, c.requires.summed.within) in
     subst (λ (x : Cube). IsAskable c.args.protocol.now x) (cube_read c.args.cubes.now i c.index-cubes-i.result below c.index-cubes-i.is) (c.requires.summed.askable i (omega arith))
 
 pub covers_listed-requires-clause-summary : goal.covers_listed-requires-clause-summary
 covers_listed-requires-clause-summary c =
-    let i = c.loop-i.i in
+    let i = c.next_beyond-i.result in
     let below : i < length c.args.cubes.now = omega (arith, c.requires.summed.within) in
     subst (λ (ss : List Summary). IsSummary c.args.protocol.now c.index-cubes-i.result (summary_at ss i)) (sym c.as_slice-all.ensures)
     (subst (λ (x : Cube). IsSummary c.args.protocol.now x (summary_at c.args.summaries.now i)) (cube_read c.args.cubes.now i c.index-cubes-i.result below c.index-cubes-i.is)
     (c.requires.summed.own i (omega arith)))
 
-pub loop-i-preserved-then-keys_pass : goal.loop-i-preserved-then-keys_pass
-loop-i-preserved-then-keys_pass c =
-    let p = c.args.protocol.now in
-    let cubes = c.args.cubes.now in
-    let i = c.loop-i.i in
-    let below : i < length cubes = omega (arith, c.requires.summed.within) in
-    let none : DoesCover p c.args.cube.now (cube_at cubes i) → ⊥ =
-    c.keys_pass.ensures c.if-keys_pass.true p c.args.cube.now (cube_at cubes i) c.args.own.now (summary_at c.args.summaries.now i) c.needs_key-needed.ensures
-    (key_is offers_key c.offers-offers.result.now c.args.summaries.now i c.offers-offers.ensures (omega (arith, c.requires.summed.enough)))
-    (own_summary _ _ _ c.requires.own) (own_summary _ _ _ (c.requires.summed.own i (omega arith))) c.requires.fit (c.requires.summed.askable i (omega arith)) (λ h. c.requires.met i (ltb-true _ _ h) below) in
-    record {
-      made = c.loop-i.invariant.made;
-      first = λ r h. c.loop-i.invariant.first r (under_further p cubes c.args.cube.now i (i + 1) c.args.upto r (omega arith) (none_one (λ j. DoesCover p c.args.cube.now (cube_at cubes j)) i none) h);
-      tests = λ new h. c.loop-i.invariant.tests new (rises_from (λ j. IsCandidate p c.args.cube.now (cube_at cubes j)) i (i + 1) c.args.upto c.loop-i.scratch.tests new (omega arith) h);
-    }
-
 pub covers_listed-requires-clause-met : goal.covers_listed-requires-clause-met
 covers_listed-requires-clause-met c h =
-    let i = c.loop-i.i in
+    let i = c.next_beyond-i.result in
     let below : i < length c.args.cubes.now = omega (arith, c.requires.summed.within) in
     subst (λ (x : Cube). IsConsistent c.args.protocol.now x.width x.lits) (cube_read c.args.cubes.now i c.index-cubes-i.result below c.index-cubes-i.is)
     (c.requires.met i (ltb-true _ _ h) below)
 
 pub returns-in-Some-clause-first : goal.returns-in-Some-clause-first
 returns-in-Some-clause-first c =
-    let i = c.loop-i.i in
+    let p = c.args.protocol.now in
+    let cubes = c.args.cubes.now in
+    let cube = c.args.cube.now in
+    let i = c.next_beyond-i.result in
+    let at = c.loop-at.at in
+    let passed : (j : ℕ) → at ≤ j → j < i → DoesCover p cube (cube_at cubes j) → ⊥ =
+    none_below p cubes c.args.summaries.now c.args.upto c.requires.summed cube c.args.own.now c.requires.own c.requires.fit c.told_apart-apart.result c.loop-at.at i (omega arith) c.next_beyond-i.ensures.passed
+    c.args.met c.requires.met (nat_le c.args.upto c.args.met) (λ h. leb-true c.args.upto c.args.met h) (c.told_apart-apart.ensures c.args.own.now c.requires.needing) in
     let below : i < length c.args.cubes.now = omega (arith, c.requires.summed.within) in
     let here : cube_at c.args.cubes.now i ≡ c.index-cubes-i.result = cube_read c.args.cubes.now i c.index-cubes-i.result below c.index-cubes-i.is in
-    c.loop-i.invariant.first (Some (i, c.in-Some.places)) (
+    c.loop-at.invariant.first (Some (i, c.in-Some.places)) (
       omega arith,
       omega arith,
       subst (λ (x : Cube). CoversLeast c.args.protocol.now c.args.cube.now x c.in-Some.places) (sym here) c.in-Some.ensures.exact,
-      (λ j low high. absurd (omega arith)),
+      passed,
     )
 
 pub returns-in-Some-clause-tests : goal.returns-in-Some-clause-tests
 returns-in-Some-clause-tests c =
-    let i = c.loop-i.i in
+    let i = c.next_beyond-i.result in
     let below : i < length c.args.cubes.now = omega (arith, c.requires.summed.within) in
     let here : cube_at c.args.cubes.now i ≡ c.index-cubes-i.result = cube_read c.args.cubes.now i c.index-cubes-i.result below c.index-cubes-i.is in
     let P : ℕ → Type 0 = λ j. IsCandidate c.args.protocol.now c.args.cube.now (cube_at c.args.cubes.now j) in
     let new = c.covers_listed.new.scratch.tests in
-    c.loop-i.invariant.tests new (rises_one P i c.args.upto c.loop-i.scratch.tests new new (omega arith)
-    (subst (λ (x : Cube). RisesIf (IsCandidate c.args.protocol.now c.args.cube.now x) c.loop-i.scratch.tests new) (sym here) c.covers_listed.ensures.tests)
-    (rises_none P (i + 1) c.args.upto new new (omega arith)))
+    c.loop-at.invariant.tests new (rises_from P c.loop-at.at i c.args.upto c.loop-at.scratch.tests new c.next_beyond-i.ensures.from (rises_one P i c.args.upto c.loop-at.scratch.tests new new (omega arith)
+    (subst (λ (x : Cube). RisesIf (IsCandidate c.args.protocol.now c.args.cube.now x) c.loop-at.scratch.tests new) (sym here) c.covers_listed.ensures.tests)
+    (rises_none P (i + 1) c.args.upto new new (omega arith))))
 
-pub loop-i-preserved : goal.loop-i-preserved
-loop-i-preserved c =
-    let i = c.loop-i.i in
+pub loop-at-preserved : goal.loop-at-preserved
+loop-at-preserved c =
+    let p = c.args.protocol.now in
+    let cubes = c.args.cubes.now in
+    let cube = c.args.cube.now in
+    let i = c.next_beyond-i.result in
+    let at = c.loop-at.at in
+    let passed : (j : ℕ) → at ≤ j → j < i → DoesCover p cube (cube_at cubes j) → ⊥ =
+    none_below p cubes c.args.summaries.now c.args.upto c.requires.summed cube c.args.own.now c.requires.own c.requires.fit c.told_apart-apart.result c.loop-at.at i (omega arith) c.next_beyond-i.ensures.passed
+    c.args.met c.requires.met (nat_le c.args.upto c.args.met) (λ h. leb-true c.args.upto c.args.met h) (c.told_apart-apart.ensures c.args.own.now c.requires.needing) in
     let below : i < length c.args.cubes.now = omega (arith, c.requires.summed.within) in
     let here : cube_at c.args.cubes.now i ≡ c.index-cubes-i.result = cube_read c.args.cubes.now i c.index-cubes-i.result below c.index-cubes-i.is in
     record {
       made = c.covers_listed.ensures.made;
-      first = λ r h. c.loop-i.invariant.first r (under_further c.args.protocol.now c.args.cubes.now c.args.cube.now i (i + 1) c.args.upto r (omega arith)
-          (none_one (λ j. DoesCover c.args.protocol.now c.args.cube.now (cube_at c.args.cubes.now j)) i
-          (λ covers. c.in-None.ensures.exact (subst (λ (x : Cube). DoesCover c.args.protocol.now c.args.cube.now x) here covers))) h);
-      tests = λ new h. c.loop-i.invariant.tests new (rises_one (λ j. IsCandidate c.args.protocol.now c.args.cube.now (cube_at c.args.cubes.now j)) i c.args.upto
-          c.loop-i.scratch.tests c.covers_listed.new.scratch.tests new (omega arith)
-          (subst (λ (x : Cube). RisesIf (IsCandidate c.args.protocol.now c.args.cube.now x) c.loop-i.scratch.tests c.covers_listed.new.scratch.tests) (sym here) c.covers_listed.ensures.tests) h);
+      first = λ r h. c.loop-at.invariant.first r (under_further c.args.protocol.now c.args.cubes.now c.args.cube.now at (i + 1) c.args.upto r (omega arith)
+          (none_further (λ j. DoesCover c.args.protocol.now c.args.cube.now (cube_at c.args.cubes.now j)) at i (i + 1) passed (none_one (λ j. DoesCover c.args.protocol.now c.args.cube.now (cube_at c.args.cubes.now j)) i
+          (λ covers. c.in-None.ensures.exact (subst (λ (x : Cube). DoesCover c.args.protocol.now c.args.cube.now x) here covers)))) h);
+      tests = λ new h. c.loop-at.invariant.tests new (rises_from (λ j. IsCandidate c.args.protocol.now c.args.cube.now (cube_at c.args.cubes.now j)) c.loop-at.at i c.args.upto c.loop-at.scratch.tests new c.next_beyond-i.ensures.from (rises_one (λ j. IsCandidate c.args.protocol.now c.args.cube.now (cube_at c.args.cubes.now j)) i c.args.upto
+          c.loop-at.scratch.tests c.covers_listed.new.scratch.tests new (omega arith)
+          (subst (λ (x : Cube). RisesIf (IsCandidate c.args.protocol.now c.args.cube.now x) c.loop-at.scratch.tests c.covers_listed.new.scratch.tests) (sym here) c.covers_listed.ensures.tests) h));
     }
 
 pub returns-clause-first : goal.returns-clause-first
-returns-clause-first c = c.loop-i.invariant.first None (λ j low high. absurd (omega arith))
+returns-clause-first c = c.loop-at.invariant.first None (λ j low high. absurd (omega arith))
+
+pub returns-then-i-upto-clause-first : goal.returns-then-i-upto-clause-first
+returns-then-i-upto-clause-first c =
+    let p = c.args.protocol.now in
+    let cubes = c.args.cubes.now in
+    let cube = c.args.cube.now in
+    let i = c.next_beyond-i.result in
+    let at = c.loop-at.at in
+    let passed : (j : ℕ) → at ≤ j → j < i → DoesCover p cube (cube_at cubes j) → ⊥ =
+    none_below p cubes c.args.summaries.now c.args.upto c.requires.summed cube c.args.own.now c.requires.own c.requires.fit c.told_apart-apart.result c.loop-at.at i (omega arith) c.next_beyond-i.ensures.passed
+    c.args.met c.requires.met (nat_le c.args.upto c.args.met) (λ h. leb-true c.args.upto c.args.met h) (c.told_apart-apart.ensures c.args.own.now c.requires.needing) in
+    c.loop-at.invariant.first None (λ j low high. passed j low (omega arith))

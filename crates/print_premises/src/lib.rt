@@ -1,0 +1,7 @@
+//! Every protocol that some text reads as meets the premises of the laws of printing, as far as they speak of its declarations,
+//! its start formula and its goals. Definitions and laws alone; the laws are the contracts of calls that do nothing.
+#![tactic(auto)]
+
+mod laws;
+
+pub use laws::premises_are_met;

@@ -1,0 +1,3 @@
+pub mod TransitionNames
+pub mod TreeReads
+pub mod StagesRead

@@ -1,0 +1,4 @@
+pub mod Wrote
+pub mod Together
+pub mod InOrder
+pub mod EffectsRead

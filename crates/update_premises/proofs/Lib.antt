@@ -1,0 +1,3 @@
+pub mod UpdatesMeet
+pub mod TransitionsMeet
+pub mod WholeMeets
