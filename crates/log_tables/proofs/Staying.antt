@@ -1,9 +1,7 @@
 -- What was judged may be applied to a log that goes on.
-use Rattle.std.proofs.Common.{◌≡◌, ℕ, ◌<◌, ◌≤◌, List, ◌∷◌, [], ◌++◌, length, take, refl, sym, ap, ◌∙◌, subst, arith}
-use Rattle.std.specs.Prelude.{Option, Some, None, All, IfSome}
+use Rattle.std.proofs.Common.{◌≡◌, ℕ, ◌<◌, ◌≤◌, List, ◌∷◌, [], length, take, sym, ◌∙◌, subst, arith}
+use Rattle.std.specs.Prelude.{Option, Some, None, IfSome}
 use Rattle.std.proofs.lemmas.List.{length-take-le, get_or-take, ext_get_or}
-use Rattle.std.proofs.lemmas.List.Elements.{All-nil, All-push}
-use Rattle.std.proofs.Math.Seq.{take-length}
 use Rattle.cub_proto.specs.declared.protocol.Protocol.{Protocol}
 use Rattle.cub_cube.specs.declared.cube.Cube.{Cube}
 use Rattle.log_form.specs.declared.node.Node.{Node}
@@ -19,7 +17,7 @@ use Rattle.log_steps.specs.Judged.{AreJudged}
 use Rattle.cube_form.specs.Form.{IsGivenForm}
 use Rattle.cube_core.specs.Judgements.{IsJudgement}
 use Rattle.predecessors.specs.Predecessors.{ArePieceCubes}
-use Rattle.log_tables.specs.Kept.{IsAtHand, AreJudgements, StaysJudged, IsKept}
+use Rattle.log_tables.specs.Kept.{StaysJudged}
 
 -- the first cubes stay
 module _ (old new : List Node) (later : AreLaterNodes old new) (seen : ℕ) (within : seen ≤ length old) where
@@ -64,41 +62,5 @@ goes_on_stays old new before behind on verdicts are =
     let later : AreLaterNodes old.nodes new.nodes = nodes_later ArePieceCubes old new before behind on in
     λ k d below. some_stays old new on.protocol later _ (are k d below)
 
-pub same_stays : (old new : LogValue) → new ≡ old → StaysJudged old new
-same_stays old new same verdicts are = subst (λ log. AreJudgements log verdicts) (sym same) are
-
-pub stays_on : (first old new : LogValue) → StaysJudged first old → StaysJudged old new → StaysJudged first new
-stays_on first old new h k verdicts are = k verdicts (h verdicts are)
-
 pub leads_on : (old : LogValue) (event : LogEvent) (new : LogValue) → Leads ArePieceCubes old event new → GoesOn old new
 leads_on old event new leads = record { protocol = leads.protocol; budget = leads.budget; more = event ∷ []; events = leads.events }
-
--- a log behind a change
-pub hand_on : (p : Protocol) (list : List Cube) (serving : Type 0) (old new : LogValue) → p ≡ old.protocol → GoesOn old new → list ≡ cubes_of new.nodes → serving → IsAtHand p list serving new
-hand_on p list serving old new same on cubes serves = record { protocol = same ∙ sym on.protocol; cubes = cubes; serves = serves }
-
--- a log that was just made, of which nothing was judged
-pub kept_new : (p : Protocol) (list : List Cube) (serving : Type 0) (log : LogValue) → log.protocol ≡ p → list ≡ cubes_of log.nodes → serving → IsKept p list serving [] (Some log)
-kept_new p list serving log same cubes serves = (record { protocol = sym same; cubes = cubes; serves = serves }, All-nil (λ (kept : Option Verdict). IfSome kept (λ v. IsJudgement IsGivenForm ArePieceCubes log v)))
-
--- a judgement more
-pub one_more : (log : LogValue) (verdicts new : List (Option Verdict)) (v : Verdict) → new ≡ verdicts ++ Some v ∷ [] → AreJudgements log verdicts → IsJudgement IsGivenForm ArePieceCubes log v → AreJudgements log new
-one_more log verdicts new v is are one =
-    subst (λ vs. AreJudgements log vs) (sym is)
-    (All-push (λ (kept : Option Verdict). IfSome kept (λ w. IsJudgement IsGivenForm ArePieceCubes log w)) verdicts (Some v) are one)
-
--- what was judged on all nodes
-pub judged_now : (p : Protocol) (list : List Cube) (serving : Type 0) (log : LogValue) (node : ℕ) (v : Verdict) → IsAtHand p list serving log → v.node ≡ node → v.seen ≡ length list → node < length log.nodes
-    → AreJudged IsGivenForm ArePieceCubes p list (node_at log.nodes node).cube v.picks → IsJudgement IsGivenForm ArePieceCubes log v
-judged_now p list serving log node v hand its seen inside judged =
-    let count : length list ≡ length log.nodes = ap (λ (cs : List Cube). length cs) hand.cubes ∙ length-cubes_of log.nodes in
-    record {
-      inside = subst (λ n. n < length log.nodes) (sym its) inside;
-      seen = omega arith;
-      judged = subst (λ (q : Protocol). AreJudged IsGivenForm ArePieceCubes q (take v.seen (cubes_of log.nodes)) (node_at log.nodes v.node).cube v.picks) hand.protocol
-          (subst (λ n. AreJudged IsGivenForm ArePieceCubes p (take v.seen (cubes_of log.nodes)) (node_at log.nodes n).cube v.picks) (sym its)
-          (subst (λ (cs : List Cube). AreJudged IsGivenForm ArePieceCubes p cs (node_at log.nodes node).cube v.picks) whole judged));
-    }
-  where
-    whole : list ≡ take v.seen (cubes_of log.nodes)
-    whole = hand.cubes ∙ (sym (take-length (cubes_of log.nodes)) ∙ ap (λ n. take n (cubes_of log.nodes)) (sym (seen ∙ ap (λ (cs : List Cube). length cs) hand.cubes)))
