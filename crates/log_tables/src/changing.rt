@@ -41,6 +41,7 @@ fn expand<F: Finder<Scratch>>(
     ensures hand { IsAtHand protocol.now (F.list finder.new) (F.serves finder.new protocol.now) log.new }
     ensures stays { StaysJudged log.old log.new }
 {
+    // its nodes are looked at for what they show: that the log is legal here, and legal again behind the change
     let _before = log.nodes().len();
     let answer = log.expand(scratch, protocol, finder, node);
     let _behind = log.nodes().len();
@@ -147,6 +148,7 @@ fn admit<F: Finder<Scratch>>(
     ensures stays { StaysJudged log.old log.new }
 {
     let event = event(alloc, protocol, text)?;
+    // its nodes are looked at for what they show: that the log is legal here, and legal again behind the change
     let _before = log.nodes().len();
     match log.admit(scratch, protocol, finder, &event) {
         Ok(()) => {

@@ -95,6 +95,7 @@ fn commit<F: Finder<Scratch>>(
     ensures hand { IsAtHand protocol.now (F.list finder.new) (F.serves finder.new protocol.now) log.new }
     ensures stays { StaysJudged log.old log.new }
 {
+    // its nodes are looked at for what they show: that the log is legal here, and legal again behind the change
     let _before = log.nodes().len();
     let answer = log.apply(scratch, protocol, finder, verdict);
     let _behind = log.nodes().len();
