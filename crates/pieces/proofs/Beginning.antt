@@ -1,6 +1,6 @@
 -- The first draft stands: it has room for all places that may come.
-use Rattle.std.proofs.Common.{◌≡◌, ℕ, zero, suc, ◌+◌, ◌<◌, ◌≤◌, Bool, true, false, List, [], ◌∷◌, ◌++◌, length, Option, Some, None, refl, sym, ap, ◌∙◌, subst, arith, inl, inr}
-use Rattle.std.specs.Prelude.{map, filter, replicate, ◌&&◌, nat_lt, if◌then◌else◌, IsTrue, All, Contains, count_by, slice_get, slice_index_or}
+use Rattle.std.proofs.Common.{◌≡◌, ℕ, zero, suc, ◌+◌, ◌≤◌, Bool, true, false, List, [], ◌∷◌, ◌++◌, length, Option, Some, None, refl, sym, ap, ◌∙◌, subst, arith, inl, inr}
+use Rattle.std.specs.Prelude.{map, filter, replicate, if◌then◌else◌, IsTrue, count_by, slice_get, slice_index_or}
 use Rattle.std.specs.List.{flat_map, list_all, range_with_len}
 use Rattle.std.specs.Option.{option_map_or}
 use Rattle.std.proofs.lemmas.List.{length-map, append_assoc}
@@ -19,22 +19,19 @@ use Rattle.cub_proto.specs.StateOf.{signature_of}
 use Rattle.cub_proto.specs.Fits.{update_fits, takes_any, picks_process}
 use Rattle.cub_proto.specs.Effect.{update_of, same_target}
 use Rattle.cub_proto.proofs.StateValues.{sort_is}
-use Rattle.cub_cube.specs.declared.cube.Cube.{Cube}
 use Rattle.cub_cube.specs.Mentions.{terms_in}
 use Rattle.cub_cube.specs.Step.{target_of}
 use Rattle.cub_cube.proofs.Terms.{terms_in_rise}
-use Rattle.updates.specs.declared.choice.Choice.{Choice}
 use Rattle.updates.specs.Ways.{way}
 use Rattle.updates.specs.Chosen.{choice}
 use Rattle.updates.proofs.Fitting.{found_update, target_sort_is}
 use Rattle.updates.proofs.Products.{below_has}
-use Rattle.piece_choices.specs.declared.piece.Piece.{Piece}
 use Rattle.piece_choices.specs.Pieces.{candidates_by, candidates}
 use Rattle.piece_choices.proofs.ListLemmas.{filter_has, has_filter, has_map_from}
 use Rattle.piece_choices.proofs.Suiting.{process_term, rising_distinct}
 use Rattle.piece_choices.proofs.Fitting.{its_transition}
 use Rattle.piece_choices.proofs.Widths.{no_more, find_has, transition_few}
-use Rattle.piece_steps.specs.Steps.{Draft, Step, Param, Guard, Other, Branch, Fail, Choose, Late, way_steps, steps_of, first_draft, by_steps}
+use Rattle.piece_steps.specs.Steps.{Step, Param, Guard, Other, Branch, Fail, Choose, Late, way_steps, steps_of, first_draft}
 use Rattle.piece_steps.proofs.Assembly.{steps_give}
 use Rattle.piece_steps.proofs.Pruning.{first_fits}
 use Rattle.pieces.specs.Jobs.{Search, is_step_within, can_pick, new_in, behind, IsJob, Stands}

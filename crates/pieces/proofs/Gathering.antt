@@ -1,17 +1,14 @@
 -- The transitions one after the other.
-use Rattle.std.proofs.Common.{◌≡◌, ℕ, zero, suc, ◌+◌, ◌<◌, ◌≤◌, Bool, true, List, [], ◌∷◌, ◌++◌, length, take, drop, Option, Some, None, Ok, Err, refl, sym, ap, ◌∙◌, subst, arith}
-use Rattle.std.specs.Prelude.{map, IsTrue, nat_le, All, slice_get, slice_index_or, ◌&&◌}
+use Rattle.std.proofs.Common.{◌≡◌, ℕ, zero, suc, ◌+◌, ◌<◌, ◌≤◌, List, [], ◌∷◌, ◌++◌, length, take, drop, Option, Some, None, refl, sym, ap, ◌∙◌, subst, arith}
+use Rattle.std.specs.Prelude.{IsTrue, nat_le, slice_get, slice_index_or, ◌&&◌}
 use Rattle.std.specs.List.{flat_map, list_all}
 use Rattle.std.specs.Option.{option_map_or}
 use Rattle.cub_base.specs.Numbered.{map_from}
 use Rattle.cub_base.proofs.Bools.{and_right, le_is}
-use Rattle.cub_proto.specs.declared.protocol.SortDecl.{SortDecl}
-use Rattle.cub_proto.specs.declared.protocol.Decl.{Decl}
-use Rattle.cub_proto.specs.declared.protocol.Goal.{Goal}
 use Rattle.cub_proto.specs.declared.transition.Transition.{Transition}
 use Rattle.cub_proto.specs.declared.protocol.Protocol.{Protocol}
 use Rattle.cub_proto.specs.StateOf.{signature_of}
-use Rattle.cub_proto.specs.Fits.{counts_fit, integers_in}
+use Rattle.cub_proto.specs.Fits.{integers_in}
 use Rattle.cub_cube.specs.declared.cube.Cube.{Cube}
 use Rattle.cub_cube.specs.Mentions.{terms_in}
 use Rattle.piece_choices.specs.declared.piece.Piece.{Piece}
@@ -19,7 +16,7 @@ use Rattle.piece_choices.specs.Pieces.{candidates_by, candidates, IsPossible}
 use Rattle.piece_choices.proofs.Fitting.{its_transition}
 use Rattle.piece_choices.proofs.Widths.{transition_few}
 use Rattle.piece_steps.specs.Steps.{Draft, steps_of, first_draft}
-use Rattle.pieces.specs.Handed.{TakesAll, Hands}
+use Rattle.pieces.specs.Handed.{Hands}
 use Rattle.pieces.specs.Jobs.{Search, IsJob, Stands, behind, by_number}
 use Rattle.pieces.proofs.HandsLemmas.{hands_nothing, hands_more}
 use Rattle.pieces.proofs.StepLists.{lists_more, all_few}

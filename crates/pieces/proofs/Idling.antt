@@ -1,14 +1,13 @@
 -- A step that is idle can be passed over: what is behind the draft stays.
-use Rattle.std.proofs.Common.{◌≡◌, ℕ, zero, suc, ◌+◌, ◌<◌, ◌≤◌, true, false, Bool, List, [], ◌∷◌, ◌++◌, length, drop, Option, Some, None, refl, sym, ap, ◌∙◌, subst, inl}
-use Rattle.std.specs.Prelude.{IsTrue, ◌&&◌, not, nat_lt, if◌then◌else◌, map}
-use Rattle.std.specs.List.{flat_map, range_with_len}
+use Rattle.std.proofs.Common.{◌≡◌, ℕ, ◌+◌, ◌<◌, true, false, Bool, List, [], ◌∷◌, length, drop, Option, Some, None, refl, sym, ap, ◌∙◌, subst, inl}
+use Rattle.std.specs.Prelude.{IsTrue, not, if◌then◌else◌}
+use Rattle.std.specs.List.{flat_map}
 use Rattle.std.proofs.lemmas.List.{append-nil}
 use Rattle.cub_base.proofs.Members.{Has}
 use Rattle.cub_proto.specs.declared.transition.Update.{Update}
 use Rattle.cub_proto.specs.declared.transition.Transition.{Transition}
 use Rattle.cub_proto.specs.Signature.{Signature}
 use Rattle.cub_proto.specs.StateOf.{signature_of}
-use Rattle.updates.specs.declared.choice.Choice.{Choice}
 use Rattle.piece_steps.specs.Steps.{Draft, Step, Param, Guard, Other, Branch, Fail, Choose, Late, choice_at, branches_by, fails_by, extend}
 use Rattle.pieces.specs.Idle.{has_no_branch, has_no_fail, is_idle}
 use Rattle.pieces.specs.Options.{update_at}

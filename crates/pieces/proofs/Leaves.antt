@@ -1,21 +1,15 @@
 -- A whole draft that stands is a candidate, so what holds of candidates holds of it.
-use Rattle.std.proofs.Common.{◌≡◌, ℕ, zero, suc, ◌+◌, ◌*◌, ◌<◌, ◌≤◌, Bool, true, List, [], ◌∷◌, ◌++◌, length, ◌-◌, false, Some, None, refl, sym, ap, ◌∙◌, subst, arith, inl, inr}
-use Rattle.std.specs.Prelude.{map, filter, not, if◌then◌else◌, IsTrue, All, Contains, slice_get}
+use Rattle.std.proofs.Common.{◌≡◌, ℕ, suc, ◌+◌, ◌*◌, ◌<◌, ◌≤◌, Bool, true, List, [], ◌∷◌, ◌++◌, length, ◌-◌, false, Some, refl, sym, ap, ◌∙◌, subst, arith}
+use Rattle.std.specs.Prelude.{filter, not, if◌then◌else◌, IsTrue, Contains, slice_get}
 use Rattle.std.specs.List.{list_all, range_with_len}
 use Rattle.std.proofs.lemmas.List.{length-append}
 use Rattle.std.proofs.lemmas.List.FromFn.{length-range_with_len}
-use Rattle.cub_base.proofs.Members.{Has, has_Contains, contains_Has, has_all, all_has}
-use Rattle.cub_proto.specs.declared.literal.Term.{Term}
-use Rattle.cub_proto.specs.declared.literal.Lit.{Lit}
-use Rattle.cub_proto.specs.declared.transition.Transition.{Transition}
-use Rattle.cub_proto.specs.declared.protocol.Protocol.{Protocol}
+use Rattle.cub_base.proofs.Members.{contains_Has}
 use Rattle.cub_proto.specs.StateOf.{signature_of}
-use Rattle.cub_proto.specs.Fits.{literal_fits, is_bounded, greatest_bound, greatest_constant, update_fits}
-use Rattle.cub_cube.specs.declared.cube.Cube.{Cube}
+use Rattle.cub_proto.specs.Fits.{literal_fits, greatest_constant, update_fits}
 use Rattle.cub_cube.specs.Mentions.{terms_in}
 use Rattle.cub_cube.specs.Replace.{can_replace_all}
 use Rattle.theory_laws.specs.Fitting.{AreFitting, greatest_size}
-use Rattle.updates.specs.declared.choice.Choice.{Choice}
 use Rattle.updates.specs.Chosen.{values_by}
 use Rattle.updates.specs.Sides.{most_bound}
 use Rattle.updates.proofs.StepLemmas.{all_member, member_all, values_can}
@@ -23,17 +17,16 @@ use Rattle.piece_choices.specs.declared.piece.Piece.{Piece}
 use Rattle.piece_choices.specs.Placings.{is_among, free_places, new_places}
 use Rattle.piece_choices.specs.Selections.{Selection}
 use Rattle.piece_choices.specs.Pieces.{candidates}
-use Rattle.piece_choices.proofs.Candidates.{IsCandidate, candidate_is}
+use Rattle.piece_choices.proofs.Candidates.{candidate_is}
 use Rattle.piece_choices.proofs.ListLemmas.{zip_length}
 use Rattle.piece_choices.proofs.SelectionLemmas.{IsSelection}
 use Rattle.piece_choices.proofs.Fitting.{TransitionFits, its_transition, placed, placing_narrow, cube_narrow, params_below, updates_at, parts_of, has_choices, params_within}
 use Rattle.piece_choices.proofs.Limits.{piece_fits, piece_bounded, all_wider}
 use Rattle.piece_choices.proofs.Widths.{piece_wide, transition_few}
-use Rattle.piece_steps.specs.Steps.{Draft, leaf}
-use Rattle.piece_steps.specs.DraftFits.{DraftFits}
+use Rattle.piece_steps.specs.Steps.{Draft}
 use Rattle.piece_steps.proofs.Pruning.{wider_fits}
 use Rattle.pieces.specs.Handed.{piece_of}
-use Rattle.pieces.specs.Jobs.{Search, IsExpandable, IsJob, Stands, IsWhole, cube_of, greatest_expanded}
+use Rattle.pieces.specs.Jobs.{Search, Stands, IsWhole, cube_of, greatest_expanded}
 
 -- the piece of a whole draft
 abbrev pub own_piece : Search → Draft → Piece

@@ -11,3 +11,4 @@ pub mod Beginning
 pub mod Gathering
 pub mod Raw
 pub mod Idling
+pub mod Refuting

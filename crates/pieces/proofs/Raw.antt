@@ -1,5 +1,5 @@
 -- The literals of a whole draft before they are put in order: they fit the theory, and say what the cube says.
-use Rattle.std.proofs.Common.{◌≡◌, ℕ, ◌+◌, ◌*◌, ◌≤◌, true, List, [], ◌∷◌, ◌++◌, Some, None, Ok, Err, length, refl, sym, ap, ◌∙◌, subst, arith}
+use Rattle.std.proofs.Common.{◌≡◌, ◌+◌, ◌*◌, List, [], ◌∷◌, Some, None, Ok, Err, refl, sym, subst, arith}
 use Rattle.std.specs.Prelude.{map, IsTrue, Option, Result, IfOk, IfSome, IfNone}
 use Rattle.std.specs.List.{list_all}
 use Rattle.cub_base.proofs.Bools.{and_both, and_left, and_right}
@@ -10,7 +10,6 @@ use Rattle.cub_proto.specs.StateOf.{signature_of}
 use Rattle.cub_proto.specs.Fits.{literal_fits, is_bounded, greatest_constant}
 use Rattle.cub_cube.specs.declared.cube.Cube.{Cube}
 use Rattle.cub_cube.specs.Meaning.{IsConsistent, SameMeaning}
-use Rattle.cub_cube.specs.Normal.{normal_form}
 use Rattle.cub_cube.specs.Replace.{can_replace_all}
 use Rattle.cub_cube.proofs.Bounds.{replaced_bounded, same_back, same_meets}
 use Rattle.cub_cube.proofs.Form.{fold_true}

@@ -1,13 +1,11 @@
 -- The list of steps as it is made: what one more push gives.
-use Rattle.std.proofs.Common.{◌≡◌, ℕ, zero, suc, ◌+◌, ◌<◌, ◌≤◌, true, Bool, List, [], ◌∷◌, ◌++◌, length, take, Option, Some, None, refl, sym, ap, ◌∙◌, subst, arith}
-use Rattle.std.specs.Prelude.{map, ◌&&◌, nat_le, IsTrue, slice_index_or, find, if◌then◌else◌}
+use Rattle.std.proofs.Common.{◌≡◌, ℕ, zero, suc, ◌+◌, ◌<◌, ◌≤◌, List, [], ◌∷◌, ◌++◌, length, take, Some, refl, sym, ap, ◌∙◌, arith}
+use Rattle.std.specs.Prelude.{map, nat_le, IsTrue, slice_index_or}
 use Rattle.std.specs.List.{flat_map, range_with_len, list_all}
 use Rattle.std.proofs.lemmas.List.{append_assoc, append-nil}
 use Rattle.std.proofs.lemmas.List.Concat.{flat_map-append}
 use Rattle.cub_base.specs.Numbered.{map_from}
 use Rattle.cub_base.proofs.Bools.{and_left, and_right, and_both, is_le, le_is}
-use Rattle.cub_base.proofs.Members.{Has}
-use Rattle.cub_proto.specs.declared.literal.Term.{Term}
 use Rattle.cub_proto.specs.declared.transition.Target.{Target}
 use Rattle.cub_proto.specs.declared.transition.Update.{Update}
 use Rattle.cub_proto.specs.Signature.{Signature, target_sort}

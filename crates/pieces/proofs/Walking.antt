@@ -1,5 +1,5 @@
 -- What the walk rests on: giving up is right, and a whole draft is handed on exactly where some state meets it.
-use Rattle.std.proofs.Common.{◌≡◌, ◌+◌, ◌<◌, ◌≤◌, true, false, Bool, Ok, Err, ℕ, List, [], ◌∷◌, ◌++◌, length, drop, refl, sym, ap, ◌∙◌, subst, inl, inr, arith}
+use Rattle.std.proofs.Common.{◌≡◌, ◌+◌, ◌<◌, ◌≤◌, true, false, Bool, Ok, Err, ℕ, List, [], ◌∷◌, length, drop, refl, sym, ap, ◌∙◌, subst, inl, inr, arith}
 use Rattle.std.specs.Prelude.{IsTrue, ◌↔◌, Result, IfOk, OnOk, if◌then◌else◌}
 use Rattle.std.specs.List.{flat_map, range_with_len}
 use Rattle.std.proofs.lemmas.List.{append-nil}
@@ -15,13 +15,13 @@ use Rattle.cub_cube.specs.Meaning.{IsConsistent}
 use Rattle.piece_choices.specs.declared.piece.Piece.{Piece}
 use Rattle.piece_choices.specs.Pieces.{IsPossible}
 use Rattle.piece_choices.proofs.Fitting.{its_transition}
-use Rattle.piece_steps.specs.Steps.{Draft, Step, extend, leaf}
+use Rattle.piece_steps.specs.Steps.{Draft, Step}
 use Rattle.piece_steps.proofs.Pruning.{nothing_behind}
 use Rattle.pieces.specs.Options.{options, option_at}
 use Rattle.pieces.specs.Marks.{cut_back, mark_of}
 use Rattle.pieces.specs.Handed.{piece_of, Hands}
 use Rattle.pieces.proofs.Cutting.{option_back, cut_same}
-use Rattle.pieces.specs.Jobs.{Search, Stands, IsJob, behind, step_at, term_number, cube_of}
+use Rattle.pieces.specs.Jobs.{Search, Stands, behind, step_at, term_number, cube_of}
 use Rattle.pieces.proofs.HandsLemmas.{hands_nothing, hands_one, hands_turn}
 use Rattle.pieces.proofs.OptionLemmas.{by_options}
 use Rattle.pieces.proofs.Readiness.{drop_step}

@@ -3,3 +3,4 @@ pub mod Marks
 pub mod Jobs
 pub mod Handed
 pub mod Idle
+pub mod Alone

@@ -44,7 +44,7 @@ fn is_idle(protocol: &Protocol, transition: &Transition, step: Step, work: &Work
         Step::Fail(i, b) => {
             has_no_fail(update_at(transition, work, i), work.choices[i].branch, b)
         }
-        Step::Choose(i) => !is_free(protocol, transition, work, i),
+        Step::Choose(i) => !is_free(transition, work, i),
         Step::Late(j) => !is_late(work, j),
     }
 }

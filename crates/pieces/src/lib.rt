@@ -16,6 +16,9 @@ pub use work::Work;
 // The options of steps.
 mod options;
 
+// Literals that say something by themselves.
+mod alone;
+
 // The cube of a whole draft.
 mod whole;
 

@@ -22,7 +22,7 @@ use crate::step::Step;
 use crate::work::Work;
 use cub_proto::{PSide, Protocol, Sort, Target, Term, Transition, Update, Value};
 use std::alloc::AllocError;
-use updates::{chosen_value, condition, update_of};
+use updates::{condition, update_of, way_value};
 
 fn target_of(term: Term) -> Target
     ensures { result ≡ target_of term }
@@ -72,21 +72,21 @@ fn late_place(inner: u8, j: usize) -> u8
     (usize::from(inner) + j) as u8
 }
 
-// Whether the chosen value of the term with that number is `?`.
-pub(crate) fn is_free(protocol: &Protocol, transition: &Transition, work: &Work, i: usize) -> bool
-    requires there { i < length work.now.choices }
-    requires few { length work.now.params < 12 }
-    requires fit { IsTrue (list_all (update_fits (signature_of protocol.now) (length work.now.params)) transition.now.updates) }
+fn is_any(value: Value) -> bool
+    ensures { result ≡ is_any value }
+{
+    matches!(value, Value::Any)
+}
+
+// Whether the chosen value of the term with that number is `?`. Places make no difference to that.
+pub(crate) fn is_free(transition: &Transition, work: &Work, i: usize) -> bool
+    requires { i < length work.now.choices }
     ensures { result ≡ is_any (chosen_value transition.now.updates work.now.params (choice_at work.now i)) }
 {
-    let value = chosen_value(
-        work.lits.allocator(),
-        protocol,
-        transition.updates.as_slice(),
-        work.params.as_slice(),
-        &work.choices[i],
-    );
-    matches!(value, Value::Any)
+    match update_at(transition, work, i) {
+        Some(update) => is_any(way_value(update, work.choices[i].branch)),
+        None => false,
+    }
 }
 
 fn branch_count(update: Option<&Update>) -> usize
@@ -120,7 +120,7 @@ fn free_count(protocol: &Protocol, transition: &Transition, work: &Work, i: usiz
     requires fit { IsTrue (list_all (update_fits (signature_of protocol.now) (length work.now.params)) transition.now.updates) }
     ensures { result ≡ (if is_any (chosen_value transition.now.updates work.now.params (choice_at work.now i)) then value_count (signature_of protocol.now) work.now.width (choice_at work.now i).term (sort_of (signature_of protocol.now) (choice_at work.now i).term) else 1) }
 {
-    if is_free(protocol, transition, work, i) {
+    if is_free(transition, work, i) {
         value_count(protocol, work.width, work.choices[i].term)
     } else {
         1
@@ -276,7 +276,7 @@ fn take_value(protocol: &Protocol, transition: &Transition, work: &mut Work, i: 
     requires inside { IsTrue (is_any (chosen_value transition.now.updates work.old.params (choice_at work.old i))) → k < value_count (signature_of protocol.now) work.old.width (choice_at work.old i).term (sort_of (signature_of protocol.now) (choice_at work.old i).term) }
     ensures { value_option (signature_of protocol.now) transition.now work.old i k ≡ work.new ∷ [] }
 {
-    if is_free(protocol, transition, work, i) {
+    if is_free(transition, work, i) {
         let (value, width) = value_at(protocol, work.width, work.choices[i].term, k);
         work.take_pick(i, value, width);
     }

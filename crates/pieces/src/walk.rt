@@ -14,7 +14,9 @@ ghost use Rattle.pieces.specs.Options.{options, option_at};
 ghost use Rattle.pieces.specs.Jobs.{Stands, as_step, term_number, step_at, behind};
 ghost use Rattle.pieces.specs.Marks.{mark_of};
 ghost use Rattle.pieces.specs.Handed.{Hands};
+ghost use Rattle.pieces.specs.Alone.{may_be_met};
 
+use crate::alone::{may_be_met, says_more};
 use crate::idle::next_choice;
 use crate::job::Job;
 use crate::options::{option_count, take_option};
@@ -48,7 +50,8 @@ fn is_met(job: &Job, scratch: &mut Scratch, width: u8, lits: &[Lit]) -> bool
 }
 
 // Whether there may be pieces behind the draft, whose next step has so many options. It is not asked where no literal came
-// since the last test, nor where there is no choice: one more step costs less than a test.
+// since the last test but such as compare places, which were looked at when they came, nor where there is no choice: one more
+// step costs less than a test.
 fn may_go_on(
     job: &Job,
     scratch: &mut Scratch,
@@ -63,13 +66,13 @@ fn may_go_on(
     ensures made { IsFor job.now.protocol scratch.new }
     ensures none { result ≡ false → Keeps (IsPossible job.now.protocol) (behind job.now (drop at job.now.steps) work.now) [] }
 {
-    if count < 2 || work.lits.len() == tested {
+    if count < 2 || !says_more(work.lits.as_slice(), tested) {
         return true;
     }
     is_met(job, scratch, work.width, work.lits.as_slice())
 }
 
-// How many literals are tested where the draft is gone on with.
+// How many literals need no test any more where the draft is gone on with.
 fn tested_now(work: &Work, count: usize, tested: usize) -> usize {
     if count < 2 { tested } else { work.lits.len() }
 }
@@ -111,7 +114,14 @@ fn is_end(job: &Job, at: usize) -> bool
     at == job.steps.len()
 }
 
-// Goes on with one option of a step, and undoes it.
+// Whether no literal that came since the mark is false by itself.
+fn is_open(work: &Work, mark: &Mark) -> bool
+    ensures { result ≡ may_be_met (drop mark.now.lits work.now.lits) }
+{
+    may_be_met(work.lits.as_slice(), mark.lits)
+}
+
+// Goes on with one option of a step, unless it brought a literal that no state meets, and undoes it.
 #[cycle(walk)]
 fn attempt<R: Receiver>(
     job: &Job,
@@ -133,6 +143,10 @@ fn attempt<R: Receiver>(
 {
     let mark = mark_at(job, work, at);
     if !take_option(job, work, at, k)? {
+        return Ok(());
+    }
+    if !is_open(work, &mark) {
+        work.cut(&mark);
         return Ok(());
     }
     walk(job, scratch, work, at + 1, tested, receiver)?;

@@ -14,6 +14,7 @@ ghost use Rattle.updates.specs.Sides.{most_bound};
 ghost use Rattle.updates.specs.Through.{literal_before};
 ghost use Rattle.pieces.specs.Jobs.{IsWhole, Stands, whole_lits, cube_of};
 
+use crate::alone::may_be_met;
 use crate::job::Job;
 use crate::work::Work;
 use cub_base::Memory;
@@ -97,12 +98,14 @@ fn push_before(
     )
 }
 
-// The cube of the literals, if some state meets them. Most drafts end here, before anything is put in order.
+// The cube of the literals, if some state meets them; those from that number on were not looked at yet. Most drafts end here,
+// before anything is put in order.
 fn met_cube(
     scratch: &mut Scratch,
     protocol: &Protocol,
     width: u8,
     lits: &Lits,
+    from: usize,
 ) -> Result<Option<Cube>, Memory>
     requires made { IsFor protocol.now scratch.old }
     requires fitting { AreFitting protocol.now width lits.now }
@@ -111,6 +114,9 @@ fn met_cube(
     ensures some { IfOk result (λ o. IfSome o (λ c. (c ≡ record { width = width; lits = normal_form (signature_of protocol.now) lits.now }) × IsConsistent protocol.now width lits.now)) }
     ensures none { IfOk result (λ o. IfNone o (IsConsistent protocol.now width lits.now → ⊥)) }
 {
+    if !may_be_met(lits.as_slice(), from) {
+        return Ok(None);
+    }
     if !theory::are_consistent(scratch, protocol, width, lits.as_slice(), &[]) {
         return Ok(None);
     }
@@ -138,7 +144,7 @@ fn cube_by(
 {
     let kept = work.lits.len();
     push_before(protocol, transition.updates.as_slice(), terms, work, lits)?;
-    let cube = met_cube(scratch, protocol, work.width, &work.lits)?;
+    let cube = met_cube(scratch, protocol, work.width, &work.lits, kept)?;
     work.cut_lits(kept);
     Ok(cube)
 }

@@ -53,7 +53,7 @@ pub(crate) struct Mark {
     width: u8,
     guard: u8,
     others: usize,
-    lits: usize,
+    pub(crate) lits: usize,
     term: usize,
     branch: u8,
     fails: usize,

@@ -1,6 +1,6 @@
-use Rattle.std.proofs.Common.{◌≡◌, ◌+◌, ◌<◌, ◌∙◌, length, sym, ap, subst, arith}
+use Rattle.std.proofs.Common.{◌<◌, ◌∙◌, length, sym, subst, arith}
 use Rattle.std.specs.Prelude.{IsTrue}
-use Rattle.std.proofs.lemmas.List.{length_push, length-map}
+use Rattle.std.proofs.lemmas.List.{length-map}
 use Rattle.pieces.specs.Idle.{is_idle}
 use Rattle.pieces.specs.Jobs.{Search, as_step, step_at}
 use Rattle.pieces.proofs.Idling.{behind_idle, stands_idle}

@@ -1,4 +1,4 @@
-use Rattle.std.proofs.Common.{◌≡◌, ◌<◌, ◌≤◌, ◌∙◌, length, subst, arith}
+use Rattle.std.proofs.Common.{◌<◌, ◌∙◌, subst}
 use Rattle.pieces.proofs.Walking.{kept_then}
 use Rattle.pieces.proofs.Gathering.{one_transition_more}
 use Rattle.pieces.proofs.pieces_of.hand_on_all.Goals as goal

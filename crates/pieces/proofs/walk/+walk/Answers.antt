@@ -1,8 +1,25 @@
-use Rattle.std.proofs.Common.{◌≡◌, ◌∙◌, sym, subst, arith}
+use Rattle.std.proofs.Common.{◌≡◌, ◌+◌, ◌∙◌, [], ◌∷◌, Ok, drop, sym, ap, subst, arith}
+use Rattle.std.specs.Prelude.{if◌then◌else◌}
+use Rattle.cub_proto.specs.StateOf.{signature_of}
 use Rattle.piece_choices.specs.Pieces.{IsPossible}
+use Rattle.pieces.specs.Options.{option_at}
+use Rattle.pieces.specs.Jobs.{step_at}
 use Rattle.pieces.specs.Handed.{Hands}
-use Rattle.pieces.proofs.Walking.{one_more, all_handed, some_step, kept_then}
+use Rattle.pieces.proofs.Refuting.{never_met}
+use Rattle.pieces.proofs.Walking.{gives_up, given_up_hands, one_more, all_handed, some_step, kept_then}
 use Rattle.pieces.proofs.walk.+walk.Goals as goal
+
+pub attempt-returns-then-not-is_open-clause-handed : goal.attempt-returns-then-not-is_open-clause-handed
+attempt-returns-then-not-is_open-clause-handed g t c =
+    let j = c.args.job.now in
+    let e = c.take_option.new.work in
+    let at = c.args.at in
+    let taken = c.if-not-branch.false in
+    let stands = c.take_option.ensures.stands (c.in_ok-take_option.was ∙ ap Ok taken) in
+    let drafts = option_at (signature_of j.protocol) j.transition j.cube.width (step_at j at) c.args.work.now c.args.k in
+    let is : drafts ≡ e ∷ [] = c.in_ok-take_option.ensures.option ∙ ap (λ b. if b then e ∷ [] else []) taken in
+    let none = never_met j.protocol e.width c.mark_at-mark.result.lits e.lits stands.fits.fits (sym c.is_open.ensures ∙ c.if-not-is_open.true) in
+    given_up_hands g.R.Receiver.takes j (drop (at + 1) j.steps) drafts e c.args.receiver.now is (gives_up j (drop (at + 1) j.steps) e stands none)
 
 pub walk-loop-k-preserved : goal.walk-loop-k-preserved
 walk-loop-k-preserved g t c = record {

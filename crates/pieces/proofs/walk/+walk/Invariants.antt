@@ -1,4 +1,4 @@
-use Rattle.std.proofs.Common.{◌≡◌, ◌+◌, ◌*◌, ◌-◌, length}
+use Rattle.std.proofs.Common.{◌≡◌, ◌*◌, ◌-◌, length}
 use Rattle.theory.specs.Made.{IsFor, IsKept}
 use Rattle.piece_choices.specs.Pieces.{IsPossible}
 use Rattle.pieces.specs.Handed.{Hands}

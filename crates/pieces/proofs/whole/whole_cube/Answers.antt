@@ -1,10 +1,8 @@
-use Rattle.std.proofs.Common.{◌≡◌, List, [], length, sym, ap, ◌∙◌, subst}
+use Rattle.std.proofs.Common.{List, [], sym, ap, ◌∙◌, subst}
 use Rattle.cub_proto.specs.declared.literal.Lit.{Lit}
 use Rattle.cub_proto.specs.StateOf.{signature_of}
-use Rattle.cub_cube.specs.declared.cube.Cube.{Cube}
-use Rattle.cub_cube.specs.Meaning.{IsConsistent}
 use Rattle.theory_laws.specs.Fitting.{AreFitting}
-use Rattle.pieces.specs.Jobs.{Search, Stands, IsWhole, whole_lits, cube_of}
+use Rattle.pieces.specs.Jobs.{Search, Stands, IsWhole, whole_lits}
 use Rattle.pieces.proofs.Leaves.{whole_is}
 use Rattle.pieces.proofs.Raw.{raw_fitting, some_cube, no_cube}
 use Rattle.pieces.proofs.whole.whole_cube.Goals as goal
