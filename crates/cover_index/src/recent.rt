@@ -2,9 +2,6 @@
 //! by cubes of the same few groups. Four of them are remembered: they are looked at in each search, also where nothing covers,
 //! so they have to be few.
 
-ghost use Rattle.std.specs.Prelude.{◌≡◌, ◌≢◌, ◌/◌, ◌≤◌, ◌↔◌, [], length, AllPairs, Contains, IsTrue};
-ghost use Rattle.cover_index.specs.Noted.{in_front};
-
 use crate::parts::GROUP;
 use std::marker::Model;
 
