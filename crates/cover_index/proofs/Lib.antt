@@ -6,3 +6,6 @@ pub mod Columned
 pub mod Sealing
 pub mod Storing
 pub mod Parting
+pub mod Merging
+pub mod Fronting
+pub mod Grouped

@@ -4,7 +4,7 @@ use Rattle.std.proofs.lemmas.Bool.{cases_lt, cases_eq}
 use Rattle.cub_proto.specs.declared.protocol.Protocol.{Protocol}
 use Rattle.cub_cube.specs.declared.cube.Cube.{Cube}
 use Rattle.cub_cube.specs.Cover.{DoesCover, IsCovered}
-use Rattle.std.specs.Prelude.{All, slice_index, IfNone}
+use Rattle.std.specs.Prelude.{All, IfNone}
 use Rattle.cub_cube.specs.Meaning.{IsConsistent}
 use Rattle.subsume.proofs.Retiring.{cube_member}
 use Rattle.cover_index.specs.Asked.{AreMet}
@@ -40,14 +40,6 @@ rises_within P from mid upto old new low high first = rises_part P from mid upto
 -- what passed by, and then the rest
 pub rises_from : (P : ℕ → Type 0) (from mid upto old new : ℕ) → from ≤ mid → RisesFor P mid upto old new → RisesFor P from upto old new
 rises_from P from mid upto old new low (n, many, most) = (n, at_least_from P from mid upto n low many, most)
-
--- a part first, then what is behind it, then what is before
-pub rises_round : (P : ℕ → Type 0) (from mid upto old between later new : ℕ) → from ≤ mid → mid ≤ upto → RisesFor P from mid old between → RisesFor P mid upto between later → RisesFor P 0 from later new → RisesFor P 0 upto old new
-rises_round P from mid upto old between later new low high (n, many, most) (m, more, least) (k, rest, last) =
-    (k + (n + m), at_least_joined P 0 from upto k (n + m) (omega arith) (omega (arith, low, high)) rest (at_least_joined P from mid upto n m low high many more), omega (arith, most, least, last))
-
-pub rises_late : (P : ℕ → Type 0) (from mid upto old between new : ℕ) → from ≤ mid → mid ≤ upto → RisesFor P from mid old between → RisesFor P mid upto between new → RisesFor P 0 upto old new
-rises_late P from mid upto old between new low high first second = rises_from P 0 from upto old new (omega arith) (rises_part P from mid upto old between new low high first second)
 
 -- ---- what is found
 pub none_further : (P : ℕ → Type 0) (from mid upto : ℕ) → ((i : ℕ) → from ≤ i → i < mid → P i → ⊥) → ((i : ℕ) → mid ≤ i → i < upto → P i → ⊥) → (i : ℕ) → from ≤ i → i < upto → P i → ⊥
@@ -106,39 +98,13 @@ none_live_passed P R from at mid before passed i low high free = elim (cases_lt 
 pub covered_by : (p : Protocol) (cubes : List Cube) (c : Cube) (i : ℕ) → i < length cubes → DoesCover p (cube_at cubes i) c → IsCovered p cubes c
 covered_by p cubes c i below covers = (cube_at cubes i, cube_member cubes i below, covers)
 
--- none before, none of what is passed over, and none of the part that is looked at
-pub none_live_part : (P : ℕ → Type 0) (retired : List ℕ) (at mid end : ℕ) → ((i : ℕ) → i < at → slice_index retired i ≡ 0 → P i → ⊥)
-    → ((i : ℕ) → at ≤ i → i < mid → P i → ⊥) → ((i : ℕ) → mid ≤ i → i < end → slice_index retired i ≡ 0 → P i → ⊥)
-    → (i : ℕ) → i < end → slice_index retired i ≡ 0 → P i → ⊥
-none_live_part P retired at mid end before passed searched i high free = elim (cases_lt i at) [
-  | inl less ↦ before i less free
-  | inr more ↦ elim (cases_lt i mid) [
-    | inl low ↦ passed i more low
-    | inr far ↦ searched i far high free
-  ]
-]
-
--- none before, none of what is passed over, and none of the part that is looked at, from a number on
-pub none_live_further : (P : ℕ → Type 0) (retired : List ℕ) (start at mid end : ℕ) → ((i : ℕ) → start ≤ i → i < at → slice_index retired i ≡ 0 → P i → ⊥)
-    → ((i : ℕ) → at ≤ i → i < mid → P i → ⊥) → ((i : ℕ) → mid ≤ i → i < end → slice_index retired i ≡ 0 → P i → ⊥)
-    → (i : ℕ) → start ≤ i → i < end → slice_index retired i ≡ 0 → P i → ⊥
-none_live_further P retired start at mid end before passed searched i low high free = elim (cases_lt i at) [
-  | inl less ↦ before i low less free
+-- known of what is before, of what is passed over, and of the part that is looked at
+pub known_further : (R N : ℕ → Type 0) (at mid end : ℕ) → ((i : ℕ) → i < at → R i → N i) → ((i : ℕ) → at ≤ i → i < mid → N i) → ((i : ℕ) → mid ≤ i → i < end → R i → N i) → (i : ℕ) → i < end → R i → N i
+known_further R N at mid end before passed searched i high which = elim (cases_lt i at) [
+  | inl less ↦ before i less which
   | inr more ↦ elim (cases_lt i mid) [
     | inl near ↦ passed i more near
-    | inr far ↦ searched i far high free
-  ]
-]
-
--- none in a part, behind it and before it
-pub none_live_round : (P : ℕ → Type 0) (retired : List ℕ) (from end upto : ℕ) → ((i : ℕ) → from ≤ i → i < end → slice_index retired i ≡ 0 → P i → ⊥)
-    → ((i : ℕ) → end ≤ i → i < upto → slice_index retired i ≡ 0 → P i → ⊥) → ((i : ℕ) → 0 ≤ i → i < from → slice_index retired i ≡ 0 → P i → ⊥)
-    → (i : ℕ) → i < upto → slice_index retired i ≡ 0 → P i → ⊥
-none_live_round P retired from end upto here behind before i high free = elim (cases_lt i from) [
-  | inl less ↦ before i (omega arith) less free
-  | inr more ↦ elim (cases_lt i end) [
-    | inl near ↦ here i more near free
-    | inr far ↦ behind i far high free
+    | inr far ↦ searched i far high which
   ]
 ]
 

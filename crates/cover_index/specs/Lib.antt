@@ -4,3 +4,4 @@ pub mod Columns
 pub mod Indexed
 pub mod Sealed
 pub mod Stored
+pub mod Noted

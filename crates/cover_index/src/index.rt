@@ -12,6 +12,7 @@ use crate::list_above::{first_cover, some_cover};
 use crate::list_below::{count_met, first_under};
 use crate::noting::{groups_of, note, revive};
 use crate::parts::{GROUP, LARGER};
+use crate::recent::Recent;
 use crate::store::Store;
 use cub_base::{Memory, Places};
 use cub_cube::Cube;
@@ -32,8 +33,8 @@ pub struct Index {
     larger: Vec<Summary>,
     // how many of the first cubes are known to be met by some state
     met: u32,
-    // where the last search for a cover ended; a hint, of which nothing is asked
-    last: u32,
+    // where the last searches found a cover; a hint, of which nothing is asked
+    recent: Recent,
 }
 
 impl Model for Index {
@@ -58,7 +59,7 @@ impl Index {
             groups: Vec::new(alloc),
             larger: Vec::new(alloc),
             met: 0,
-            last: 0,
+            recent: Recent::new(),
         }
     }
 
@@ -77,7 +78,7 @@ impl Index {
             groups,
             larger,
             met: self.met,
-            last: self.last,
+            recent: self.recent.copy(),
         })
     }
 }
@@ -184,11 +185,11 @@ impl Finder<Scratch> for Index {
             self.groups.as_slice(),
             self.larger.as_slice(),
             self.retired.as_slice(),
-            self.last,
+            &self.recent,
             cube,
         ) {
             Some(near) => {
-                self.last = near;
+                self.recent.note(near);
                 true
             }
             None => false,

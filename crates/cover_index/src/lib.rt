@@ -33,6 +33,9 @@ mod noting;
 // The cubes of a list.
 mod store;
 
+// Groups in which covers were found of late.
+mod recent;
+
 // Cubes of a list that cover a given one.
 mod list_above;
 

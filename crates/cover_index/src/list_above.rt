@@ -1,6 +1,6 @@
 //! Searches of a whole list for cubes that cover a given one. It is closed once a search.
 
-ghost use Rattle.std.specs.Prelude.{◌≡◌, ◌*◌, ◌+◌, ◌-◌, ◌%◌, ◌^◌, ◌<◌, ◌≤◌, ℕ, false, length, slice_index, IsTrue, IfSome, IfNone};
+ghost use Rattle.std.specs.Prelude.{◌≡◌, ◌*◌, ◌+◌, ◌-◌, ◌/◌, ◌%◌, ◌^◌, ◌<◌, ◌≤◌, ℕ, false, length, slice_index, IsTrue, IfSome, IfNone};
 ghost use Rattle.cub_cube.specs.Cover.{DoesCover, IsCovered};
 ghost use Rattle.log_form.specs.Pieces.{IsAskable};
 ghost use Rattle.log_form.specs.Links.{cube_at, IsFirstCover};
@@ -8,11 +8,14 @@ ghost use Rattle.theory.specs.Made.{IsFor};
 ghost use Rattle.subsume.specs.Scanned.{AreRetired};
 ghost use Rattle.subsume.specs.Summary.{IsOf};
 ghost use Rattle.cover_index.specs.Counted.{RisesForCovers};
+ghost use Rattle.cover_index.specs.Noted.{IsNoted, RisesForNoted, RisesForOthers};
 ghost use Rattle.cover_index.specs.Asked.{IsAsked, AreSummed, AreGrouped};
 ghost use Rattle.cover_index.specs.Columns.{AreFilled, lacks};
 
 use crate::above::{first_among, some_among};
+use crate::candidates::passes_over;
 use crate::parts::{GROUP, next_above};
+use crate::recent::Recent;
 use crate::store::Store;
 use crate::summaries::lacking;
 use cub_base::Places;
@@ -152,16 +155,148 @@ fn some_in(
     )
 }
 
-// A part from one number up to another in which a cube that none has retired covers the loaded one, if there is one.
-fn part_with_cover(
+// The group with that number, cut at the end of the list; nothing where it is past that.
+fn part_of(group: u32, upto: u32) -> (u32, u32)
+    ensures order { result.0 ≤ result.1 }
+    ensures within { result.1 ≤ upto }
+    ensures near { result.1 ≤ result.0 + (64 - result.0 % 64) }
+    ensures inside { (i : ℕ) → result.0 ≤ i → i < result.1 → i / 64 ≡ group }
+    ensures all { (i : ℕ) → i < upto → i / 64 ≡ group → (result.0 ≤ i) × (i < result.1) }
+{
+    if group > upto / GROUP {
+        return (upto, upto);
+    }
+    let from = group * GROUP;
+    if upto - from <= GROUP {
+        (from, upto)
+    } else {
+        (from, from + GROUP)
+    }
+}
+
+// As `some_in`, for cubes of one group. They are passed over where its summary allows no cover.
+fn some_in_group(
+    scratch: &mut Scratch,
+    protocol: &Protocol,
+    store: &Store,
+    groups: &[Summary],
+    retired: &[u32],
+    from: u32,
+    upto: u32,
+    cube: &Cube,
+    own: &Summary,
+    lacking: &[u64],
+    consistent: bool,
+) -> bool
+    requires asked { IsAsked protocol.now cube.now own.now consistent scratch.old }
+    requires lacking { AreFilled lacking.now (lacks own.now) }
+    requires own { IsOf protocol.now cube.now own.now }
+    requires summed { AreSummed protocol.now store.now.cubes store.now.summaries }
+    requires groups { AreGrouped protocol.now 64 store.now.cubes groups.now }
+    requires one_each { length retired.now ≡ length store.now.cubes }
+    requires groups_room { length store.now.cubes ≤ 64 * length groups.now }
+    requires order { from ≤ upto }
+    requires within { upto ≤ length store.now.cubes }
+    requires near { upto ≤ from + (64 - from % 64) }
+    ensures asked { IsAsked protocol.now cube.now own.now consistent scratch.new }
+    ensures some { IsTrue result → IsCovered protocol.now store.now.cubes cube.now }
+    ensures none { result ≡ false → (i : ℕ) → from ≤ i → i < upto → slice_index retired.now i ≡ 0 → DoesCover protocol.now (cube_at store.now.cubes i) cube.now → ⊥ }
+    ensures tests { RisesForCovers protocol.now store.now.cubes from upto cube.now scratch.old.tests scratch.new.tests }
+{
+    if from == upto {
+        return false;
+    }
+    if passes_over(consistent, &groups[(from / GROUP) as usize], own) {
+        return false;
+    }
+    some_in(
+        scratch, protocol, store, retired, from, upto, cube, own, lacking, consistent,
+    )
+}
+
+// The first cube of a noted group in which a cube that none has retired covers the loaded one, if there is one.
+fn noted_with_cover(
+    scratch: &mut Scratch,
+    protocol: &Protocol,
+    store: &Store,
+    groups: &[Summary],
+    retired: &[u32],
+    recent: &Recent,
+    cube: &Cube,
+    own: &Summary,
+    lacking: &[u64],
+    consistent: bool,
+) -> Option<u32>
+    requires asked { IsAsked protocol.now cube.now own.now consistent scratch.old }
+    requires lacking { AreFilled lacking.now (lacks own.now) }
+    requires own { IsOf protocol.now cube.now own.now }
+    requires summed { AreSummed protocol.now store.now.cubes store.now.summaries }
+    requires groups { AreGrouped protocol.now 64 store.now.cubes groups.now }
+    requires one_each { length retired.now ≡ length store.now.cubes }
+    requires groups_room { length store.now.cubes ≤ 64 * length groups.now }
+    ensures asked { IsAsked protocol.now cube.now own.now consistent scratch.new }
+    ensures some { IfSome result (λ n. IsCovered protocol.now store.now.cubes cube.now) }
+    ensures none { IfNone result ((i : ℕ) → i < length store.now.cubes → IsNoted recent.now i → slice_index retired.now i ≡ 0 → DoesCover protocol.now (cube_at store.now.cubes i) cube.now → ⊥) }
+    ensures tests { RisesForNoted protocol.now store.now.cubes recent.now 0 (length store.now.cubes) cube.now scratch.old.tests scratch.new.tests }
+{
+    let upto = store.count();
+    for group in recent.as_slice() {
+        let (from, end) = part_of(*group, upto);
+        if some_in_group(
+            scratch, protocol, store, groups, retired, from, end, cube, own, lacking, consistent,
+        ) {
+            return Some(from);
+        }
+    }
+    None
+}
+
+// As `some_in`, but a noted group is not looked at again.
+fn some_other_in(
+    scratch: &mut Scratch,
+    protocol: &Protocol,
+    store: &Store,
+    retired: &[u32],
+    recent: &Recent,
+    from: u32,
+    upto: u32,
+    cube: &Cube,
+    own: &Summary,
+    lacking: &[u64],
+    consistent: bool,
+) -> bool
+    requires asked { IsAsked protocol.now cube.now own.now consistent scratch.old }
+    requires lacking { AreFilled lacking.now (lacks own.now) }
+    requires summed { AreSummed protocol.now store.now.cubes store.now.summaries }
+    requires one_each { length retired.now ≡ length store.now.cubes }
+    requires order { from ≤ upto }
+    requires within { upto ≤ length store.now.cubes }
+    requires near { upto ≤ from + (64 - from % 64) }
+    ensures asked { IsAsked protocol.now cube.now own.now consistent scratch.new }
+    ensures some { IsTrue result → IsCovered protocol.now store.now.cubes cube.now }
+    ensures none { result ≡ false → (i : ℕ) → from ≤ i → i < upto → (IsNoted recent.now i → ⊥) → slice_index retired.now i ≡ 0 → DoesCover protocol.now (cube_at store.now.cubes i) cube.now → ⊥ }
+    ensures tests { RisesForOthers protocol.now store.now.cubes recent.now from upto cube.now scratch.old.tests scratch.new.tests }
+{
+    if from == upto {
+        return false;
+    }
+    if recent.has(from / GROUP) {
+        return false;
+    }
+    some_in(
+        scratch, protocol, store, retired, from, upto, cube, own, lacking, consistent,
+    )
+}
+
+// The first cube of a part in which a cube of no noted group that none has retired covers the loaded one, if there is one.
+fn other_with_cover(
     scratch: &mut Scratch,
     protocol: &Protocol,
     store: &Store,
     groups: &[Summary],
     larger: &[Summary],
     retired: &[u32],
-    start: u32,
-    upto: u32,
+    recent: &Recent,
     cube: &Cube,
     own: &Summary,
     lacking: &[u64],
@@ -176,45 +311,27 @@ fn part_with_cover(
     requires one_each { length retired.now ≡ length store.now.cubes }
     requires groups_room { length store.now.cubes ≤ 64 * length groups.now }
     requires larger_room { length store.now.cubes ≤ 4096 * length larger.now }
-    requires order { start ≤ upto }
-    requires within { upto ≤ length store.now.cubes }
     ensures asked { IsAsked protocol.now cube.now own.now consistent scratch.new }
     ensures some { IfSome result (λ n. IsCovered protocol.now store.now.cubes cube.now) }
-    ensures none { IfNone result ((i : ℕ) → start ≤ i → i < upto → slice_index retired.now i ≡ 0 → DoesCover protocol.now (cube_at store.now.cubes i) cube.now → ⊥) }
-    ensures tests { RisesForCovers protocol.now store.now.cubes start upto cube.now scratch.old.tests scratch.new.tests }
+    ensures none { IfNone result ((i : ℕ) → i < length store.now.cubes → (IsNoted recent.now i → ⊥) → slice_index retired.now i ≡ 0 → DoesCover protocol.now (cube_at store.now.cubes i) cube.now → ⊥) }
+    ensures tests { RisesForOthers protocol.now store.now.cubes recent.now 0 (length store.now.cubes) cube.now scratch.old.tests scratch.new.tests }
 {
-    let mut at = start;
+    let upto = store.count();
+    let mut at = 0;
     while at < upto {
         let (from, end) = next_above(groups, larger, at, upto, own, consistent);
-        if some_in(
-            scratch, protocol, store, retired, from, end, cube, own, lacking, consistent,
+        if some_other_in(
+            scratch, protocol, store, retired, recent, from, end, cube, own, lacking, consistent,
         ) {
-            return Some(at);
+            return Some(from);
         }
         at = end;
     }
     None
 }
 
-// The group of the number, cut at the end of the list; nothing where the number is past it.
-fn group_of(number: u32, upto: u32) -> (u32, u32)
-    ensures order { result.0 ≤ result.1 }
-    ensures within { result.1 ≤ upto }
-{
-    if number >= upto {
-        return (upto, upto);
-    }
-    let from = number - number % GROUP;
-    if upto - from <= GROUP {
-        (from, upto)
-    } else {
-        (from, from + GROUP)
-    }
-}
-
-/// A number near a cube that covers the given one, if some cube does. Retired cubes are passed over: what covers them comes
-/// later. The group of `last` is looked at first, then what comes behind it, then what is before: pieces that are asked about
-/// one after the other are often covered by the same cube.
+/// A number in the group of a cube that covers the given one, if some cube does. Retired cubes are passed over: what covers
+/// them comes later. The noted groups are looked at first, then all others from the beginning on, so no cube is tested twice.
 pub(crate) fn some_cover(
     scratch: &mut Scratch,
     protocol: &Protocol,
@@ -222,7 +339,7 @@ pub(crate) fn some_cover(
     groups: &[Summary],
     larger: &[Summary],
     retired: &[u32],
-    last: u32,
+    recent: &Recent,
     cube: &Cube,
 ) -> Option<u32>
     requires made { IsFor protocol.now scratch.old }
@@ -242,24 +359,13 @@ pub(crate) fn some_cover(
     let own = Summary::of(protocol, cube);
     let lacking = lacking(&own);
     let consistent = load_small(scratch, protocol, cube);
-    let upto = store.count();
-    let (from, end) = group_of(last, upto);
-    match part_with_cover(
-        scratch, protocol, store, groups, larger, retired, from, end, cube, &own, &lacking,
-        consistent,
+    match noted_with_cover(
+        scratch, protocol, store, groups, retired, recent, cube, &own, &lacking, consistent,
     ) {
         Some(near) => return Some(near),
         None => {}
     }
-    match part_with_cover(
-        scratch, protocol, store, groups, larger, retired, end, upto, cube, &own, &lacking,
-        consistent,
-    ) {
-        Some(near) => return Some(near),
-        None => {}
-    }
-    part_with_cover(
-        scratch, protocol, store, groups, larger, retired, 0, from, cube, &own, &lacking,
-        consistent,
+    other_with_cover(
+        scratch, protocol, store, groups, larger, retired, recent, cube, &own, &lacking, consistent,
     )
 }

@@ -122,8 +122,31 @@ fn member(term: Term, number: u32) -> Option<Lit> {
     Some(Lit::FinIn { term, mask })
 }
 
+// Literals that give X the value `number`: of the cubes from `EXACT` on none covers another.
+fn exact(alloc: Global, number: u32) -> Result<Vec<Lit>, AllocError> {
+    let x = ISide::At(Term::Global(1));
+    let value = i64::from(number);
+    let mut lits = Vec::new(alloc);
+    lits.push(Lit::Diff {
+        a: x,
+        b: ISide::Zero,
+        bound: value,
+    })?;
+    lits.push(Lit::Diff {
+        a: ISide::Zero,
+        b: x,
+        bound: -value,
+    })?;
+    Ok(lits)
+}
+
+const EXACT: u32 = 10000;
+
 // The literals of the cube with that number. Now and then no state meets it.
 fn literals(alloc: Global, number: u32) -> Result<Vec<Lit>, AllocError> {
+    if number >= EXACT {
+        return exact(alloc, number);
+    }
     let mixed = number.wrapping_mul(2654435761) ^ (number >> 3);
     let mut lits = Vec::new(alloc);
     for place in 0..3 {
@@ -322,8 +345,9 @@ fn answers<F: Finder<Scratch>>(
     Ok(answers)
 }
 
-// Retirements of cubes that the questions may meet, cuts in the middle of a segment, at its end and to nothing.
-const STEPS: [Step; 24] = [
+// Retirements of cubes that the questions may meet, cuts in the middle of a segment, at its end and to nothing; at last
+// questions that are covered in several groups in turn, of which some are then cut.
+const STEPS: [Step; 40] = [
     Step::Ask(7, 3, 0),
     Step::Push(0, 70),
     Step::Ask(500, 40, 0),
@@ -348,6 +372,22 @@ const STEPS: [Step; 24] = [
     Step::Push(2000, 5),
     Step::Ask(1990, 40, 2),
     Step::Cut(0),
+    Step::Push(10000, 330),
+    Step::Ask(10320, 2, 0),
+    Step::Ask(10250, 2, 0),
+    Step::Ask(10180, 2, 0),
+    Step::Ask(10120, 9, 0),
+    Step::Ask(10000, 3, 0),
+    Step::Ask(10250, 9, 300),
+    Step::Cut(150),
+    Step::Ask(10120, 80, 0),
+    Step::Push(10500, 120),
+    Step::Ask(10590, 40, 0),
+    Step::Push(5000, 40),
+    Step::Ask(10140, 9, 0),
+    Step::Retire(3),
+    Step::Retire(140),
+    Step::Ask(10136, 9, 0),
 ];
 
 // What two lists do after one was shared with the other.

@@ -2,17 +2,16 @@ use Rattle.std.proofs.Common.{◌≡◌, ◌<◌, ◌≤◌, ◌-◌, ℕ}
 use Rattle.std.specs.Prelude.{slice_index}
 use Rattle.cub_cube.specs.Cover.{DoesCover}
 use Rattle.log_form.specs.Links.{cube_at}
-use Rattle.cover_index.specs.Counted.{RisesForCovers}
 use Rattle.cover_index.specs.Asked.{IsAsked}
-use Rattle.cover_index.proofs.list_above.part_with_cover.Given as goal
+use Rattle.cover_index.specs.Noted.{IsNoted, RisesForOthers}
+use Rattle.cover_index.proofs.list_above.other_with_cover.Given as goal
 
 abbrev pub invariant-loop-at : goal.invariant-loop-at
 invariant-loop-at l = record {
   asked : IsAsked l.protocol l.cube l.own l.consistent l.scratch;
-  order : l.fn.start ≤ l.at;
   within : l.at ≤ l.upto;
-  none : (j : ℕ) → l.fn.start ≤ j → j < l.at → slice_index l.retired j ≡ 0 → DoesCover l.protocol (cube_at l.store.cubes j) l.cube → ⊥;
-  tests : (new : ℕ) → RisesForCovers l.protocol l.store.cubes l.at l.upto l.cube l.scratch.tests new → RisesForCovers l.protocol l.store.cubes l.fn.start l.upto l.cube l.initial.scratch.tests new;
+  none : (j : ℕ) → j < l.at → (IsNoted l.recent j → ⊥) → slice_index l.retired j ≡ 0 → DoesCover l.protocol (cube_at l.store.cubes j) l.cube → ⊥;
+  tests : RisesForOthers l.protocol l.store.cubes l.recent 0 l.at l.cube l.initial.scratch.tests l.scratch.tests;
 }
 
 abbrev pub decreases-loop-at : goal.decreases-loop-at
