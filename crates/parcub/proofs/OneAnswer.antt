@@ -17,7 +17,8 @@ use Rattle.trace_judge.proofs.OneJudgement.{one_reason, no_reason}
 use Rattle.answer_lines.specs.Codes.{text_code, trace_code}
 use Rattle.answer_lines.specs.Lines.{place_line, form_line, refusal_line}
 use Rattle.parcub.specs.Files.{Told, Answers, Gave, IsTextFault, IsRead, AnswersFile, protocol_limit, result_limit}
-use Rattle.parcub.specs.Replays.{IsUnread, IsJudged, Accepts, Refuses, AnswersTrace}
+use Rattle.answer_laws.specs.Replays.{IsUnread, IsJudged, Accepts, Refuses}
+use Rattle.parcub.specs.Replays.{AnswersTrace}
 use Rattle.parcub.specs.Verifies.{AnswersNamed}
 use Rattle.verify_answers.specs.Verified.{AnswersCertificate}
 use Rattle.verify_answers.proofs.OneVerdict.{one_answer as one_certificate}
@@ -86,18 +87,18 @@ module _ (p : Protocol) where
 
   one_judged : (t : Trace) (status more : ℕ) (text another : List ℕ) → Accepts p t status text ⊎ Refuses p t status text
       → Accepts p t more another ⊎ Refuses p t more another → Same status more text another
-  one_judged t status more text another (inl a) (inl b) = (a.status_is ∙ sym b.status_is, a.line ∙ sym b.line)
+  one_judged t status more text another (inl a) (inl b) = (a.status_is ∙ sym b.status_is, a.line_is ∙ sym b.line_is)
   one_judged t status more text another (inl a) (inr b) = absurd (no_reason p t.start t.events t.goal t.places t.plain b.refusal b.known a.accepted b.refused)
   one_judged t status more text another (inr a) (inl b) = absurd (no_reason p t.start t.events t.goal t.places t.plain a.refusal a.known b.accepted a.refused)
   one_judged t status more text another (inr a) (inr b) =
       let same = one_reason p t.start t.events t.goal t.places t.plain a.refusal b.refusal a.known b.known a.refused b.refused in
-      (a.status_is ∙ sym b.status_is, a.line ∙ ap (refusal_line p) same ∙ sym b.line)
+      (a.status_is ∙ sym b.status_is, a.line_is ∙ ap (refusal_line p) same ∙ sym b.line_is)
 
   one_replayed : (bytes : List ℕ) (status more : ℕ) (text another : List ℕ) → IsUnread p bytes status text ⊎ IsJudged p bytes status text
       → IsUnread p bytes more another ⊎ IsJudged p bytes more another → Same status more text another
   one_replayed bytes status more text another (inl a) (inl b) =
       let same : (a.at, a.kind) ≡ (b.at, b.kind) = err_same (a.at, a.kind) (b.at, b.kind) (once_read bytes _ _ a.first b.first) in
-      (a.status_is ∙ sym b.status_is, a.line ∙ ap (λ (x : ℕ × ℕ). form_line (trace_code x.1) x.0) same ∙ sym b.line)
+      (a.status_is ∙ sym b.status_is, a.line_is ∙ ap (λ (x : ℕ × ℕ). form_line (trace_code x.1) x.0) same ∙ sym b.line_is)
   one_replayed bytes status more text another (inl a) (inr b) = absurd (apart b.trace (a.at, a.kind) (once_read bytes _ _ b.read a.first))
   one_replayed bytes status more text another (inr a) (inl b) = absurd (apart a.trace (b.at, b.kind) (once_read bytes _ _ a.read b.first))
   one_replayed bytes status more text another (inr a) (inr b) =

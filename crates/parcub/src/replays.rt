@@ -5,7 +5,8 @@ ghost use Rattle.io_edge.specs.Faults.{Rose};
 ghost use Rattle.io_edge.specs.Shelf.{AsksFor};
 ghost use Rattle.trace_judge.specs.Trace.{MayReplay};
 ghost use Rattle.parcub.specs.Files.{AnswersFile};
-ghost use Rattle.parcub.specs.Replays.{Accepts, Refuses, IsUnread, IsJudged, AnswersTrace};
+ghost use Rattle.answer_laws.specs.Replays as of_bytes;
+ghost use Rattle.parcub.specs.Replays.{AnswersTrace};
 ghost use Rattle.parcub.specs.declared.files.Stop.TheVariants as Stop;
 
 use crate::files::{RESULT_LIMIT, Stop};
@@ -24,7 +25,7 @@ use trace_text::{TraceFault, read};
 // The answer to a trace.
 fn judged(alloc: Global, protocol: &Protocol, trace: Trace) -> Result<Answer, Memory>
     requires { MayReplay protocol.now trace.start trace.events }
-    ensures { IfOk result (λ answer. Accepts protocol.now trace answer.status answer.text ⊎ Refuses protocol.now trace answer.status answer.text) }
+    ensures { IfOk result (λ answer. of_bytes.Accepts protocol.now trace answer.status answer.text ⊎ of_bytes.Refuses protocol.now trace answer.status answer.text) }
 {
     let accepted = at_accepted(alloc, trace.events.as_slice())?;
     match replayed(protocol, trace) {
@@ -37,7 +38,7 @@ fn judged(alloc: Global, protocol: &Protocol, trace: Trace) -> Result<Answer, Me
 // The answer to the bytes of a trace.
 fn bytes_answer(alloc: Global, protocol: &Protocol, bytes: &[u8]) -> Result<Answer, Memory>
     requires { length bytes.now ≤ 268435456 }
-    ensures { IfOk result (λ answer. IsUnread protocol.now bytes.now answer.status answer.text ⊎ IsJudged protocol.now bytes.now answer.status answer.text) }
+    ensures { IfOk result (λ answer. of_bytes.AnswersTrace protocol.now bytes.now answer.status answer.text) }
 {
     match read(protocol, bytes) {
         Ok(trace) => judged(alloc, protocol, trace),

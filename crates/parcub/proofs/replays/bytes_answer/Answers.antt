@@ -18,5 +18,5 @@ returns-in-Err-Fault c = IfOk-weaker c.at_trace_fault.result _ _
       kind = c.in-Err-Fault.kind;
       first = rw c.in-Err-Fault.field-0-is at c.in-Err-Fault.ensures.fault;
       status_is = answer.0;
-      line = answer.1;
+      line_is = answer.1;
     })) c.at_trace_fault.ensures
