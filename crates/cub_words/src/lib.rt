@@ -16,6 +16,7 @@ mod given;
 mod numbers;
 mod reading;
 
+pub use numbers::number_within;
 pub use reading::{read, waits};
 
 // Examples that the definitions decide.

@@ -19,7 +19,8 @@ fn is_number(word: &[u8]) -> bool
     word.len() >= 1 && word.len() <= 9 && are_digits(word)
 }
 
-/// The number that the word is, where it is one within the range. Leading zeros are allowed.
+/// The number that the word is in decimal digits, one to nine, where it is within the range; none where it is another word.
+/// Leading zeros are allowed.
 pub fn number_within(least: u32, greatest: u32, word: &[u8]) -> Option<u32>
     requires { greatest ≤ 1000000000 }
     ensures value { result ≡ number_within least greatest word.now }

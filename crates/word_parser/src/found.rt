@@ -1,45 +1,15 @@
 //! The values that `clap` found.
 
 ghost use Rattle.std.specs.Prelude.{◌≡◌, ◌≤◌, Some, option_map, codes, is_some, true};
-ghost use Rattle.std.specs.List.{list_all};
-ghost use Rattle.std.specs.Char.{is_ascii_digit};
 ghost use Rattle.clap.specs.Words.{found_of, rows_of, first_of};
 ghost use Rattle.cub_words.specs.Table.{command_named};
 ghost use Rattle.cub_words.specs.Asked.{asked_by};
-ghost use Rattle.cub_words.specs.Words.{is_number, number_within};
 ghost use Rattle.cub_words.specs.declared.table.OptionName.TheVariants as OptionName;
 ghost use Rattle.word_parser.specs.Found.{number_or, text_or_empty, name_of, name_found, value_found, request_with};
 
 use clap::ArgMatches;
-use cub_lexer::number_value;
 use cub_proto::Budget;
-use cub_words::{Command, CommandName};
-
-fn are_digits(word: &[u8]) -> bool
-    ensures { result ≡ list_all is_ascii_digit word.now }
-{
-    word.iter().all(|byte| byte.is_ascii_digit())
-}
-
-fn is_number(word: &[u8]) -> bool
-    ensures { result ≡ is_number word.now }
-{
-    word.len() >= 1 && word.len() <= 9 && are_digits(word)
-}
-
-// The number that a word is within the range.
-fn number_within(least: u32, greatest: u32, word: &[u8]) -> Option<u32>
-    requires { greatest ≤ 1000000000 }
-    ensures { result ≡ number_within least greatest word.now }
-{
-    if !is_number(word) {
-        return None;
-    }
-    match number_value(word) {
-        Some(number) if least <= number && number <= greatest => Some(number),
-        _ => None,
-    }
-}
+use cub_words::{Command, CommandName, number_within};
 
 // The number that a text is within the range, or the usual one.
 fn number_or(least: u32, greatest: u32, usual: u32, text: Option<&str>) -> u32
